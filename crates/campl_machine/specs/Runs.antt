@@ -1,0 +1,19 @@
+-- Runs of labelled reductions, whatever is reduced: `Red a l b` says that a becomes b by the reduction l.
+use Rattle.std.specs.Prelude.{◌≡◌, ℕ, zero, suc, List, ◌++◌}
+
+-- n reductions, one after another
+abbrev pub Run : {C L : Type 0} → (C → L → C → Type 0) → ℕ → C → C → Type 0
+Run Red zero a b = a ≡ b
+Run {C} {L} Red (suc n) a b = (l : L) × (c : C) × Red a l c × Run Red n c b
+
+-- some number of reductions
+abbrev pub Reaches : {C L : Type 0} → (C → L → C → Type 0) → C → C → Type 0
+Reaches Red a b = (n : ℕ) × Run Red n a b
+
+-- no reduction is possible
+abbrev pub Stuck : {C L : Type 0} → (C → L → C → Type 0) → C → Type 0
+Stuck {C} {L} Red s = (l : L) (c : C) → Red s l c → ⊥
+
+-- ys begins with xs
+abbrev pub IsPrefixOf : {A : Type 0} → List A → List A → Type 0
+IsPrefixOf {A} xs ys = (rest : List A) × (xs ++ rest ≡ ys)
