@@ -1,0 +1,4 @@
+pub mod Counts
+pub mod Given
+pub mod Marked
+pub mod Reading
