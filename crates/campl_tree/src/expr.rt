@@ -1,4 +1,7 @@
 //! Expressions.
+ghost use Rattle.std.specs.Prelude.{◌≡◌};
+ghost use Rattle.campl_tree.specs.View.{view_expr};
+ghost use Rattle.campl_tree.specs.Places.{expr_place};
 
 use crate::{Name, Pattern, Place};
 use sqlite_items::{Boxed, Items};
@@ -83,4 +86,36 @@ pub enum Expr {
 pub struct ExprRow {
     pub pattern: Pattern,
     pub value: Expr,
+}
+
+impl Expr {
+    /// The place of the expression's first token.
+    #[tactic(auto, using(crate::proofs::Views::views))]
+    pub fn place(&self) -> Place
+        ensures { result ≡ expr_place (view_expr self.now) }
+    {
+        match self {
+            Expr::If(at, _, _, _)
+            | Expr::Case(at, _, _)
+            | Expr::Or(at, _, _)
+            | Expr::And(at, _, _)
+            | Expr::Compare(at, _, _, _)
+            | Expr::Cons(at, _, _)
+            | Expr::Append(at, _, _)
+            | Expr::Calculate(at, _, _, _)
+            | Expr::Negate(at, _)
+            | Expr::Number(at, _)
+            | Expr::Character(at, _)
+            | Expr::Text(at, _)
+            | Expr::True(at)
+            | Expr::False(at)
+            | Expr::Variable(at, _)
+            | Expr::Call(at, _, _)
+            | Expr::CodeOf(at, _)
+            | Expr::CharOf(at, _)
+            | Expr::Constructor(at, _, _)
+            | Expr::List(at, _)
+            | Expr::Pair(at, _, _) => *at,
+        }
+    }
 }

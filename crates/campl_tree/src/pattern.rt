@@ -1,4 +1,7 @@
 //! Patterns.
+ghost use Rattle.std.specs.Prelude.{◌≡◌};
+ghost use Rattle.campl_tree.specs.View.{view_pattern};
+ghost use Rattle.campl_tree.specs.Places.{pattern_place};
 
 use crate::{Name, Place};
 use sqlite_items::{Boxed, Items};
@@ -26,4 +29,27 @@ pub enum Pattern {
     Pair(Place, Boxed<Pattern>, Boxed<Pattern>),
     /// `p : q`
     Cons(Place, Boxed<Pattern>, Boxed<Pattern>),
+}
+
+impl Pattern {
+    /// The place of the pattern's first token.
+    #[tactic(auto, using(crate::proofs::Views::views))]
+    pub fn place(&self) -> Place
+        ensures { result ≡ pattern_place (view_pattern self.now) }
+    {
+        match self {
+            Pattern::Wildcard(at)
+            | Pattern::Variable(at, _)
+            | Pattern::Number(at, _)
+            | Pattern::Negative(at, _)
+            | Pattern::Character(at, _)
+            | Pattern::Text(at, _)
+            | Pattern::True(at)
+            | Pattern::False(at)
+            | Pattern::Constructor(at, _, _)
+            | Pattern::List(at, _)
+            | Pattern::Pair(at, _, _)
+            | Pattern::Cons(at, _, _) => *at,
+        }
+    }
 }

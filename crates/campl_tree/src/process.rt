@@ -1,4 +1,7 @@
 //! What a process does.
+ghost use Rattle.std.specs.Prelude.{◌≡◌};
+ghost use Rattle.campl_tree.specs.View.{view_action, view_last};
+ghost use Rattle.campl_tree.specs.Places.{binder_place, action_place, command_place};
 
 use crate::{ChanType, Expr, Ident, Name, Pattern, Place};
 use sqlite_items::{Boxed, Items};
@@ -94,4 +97,49 @@ pub struct Part {
 pub struct Link {
     pub name: Ident,
     pub channel_type: ChanType,
+}
+
+impl Binder {
+    /// The place of the variable or of `_`.
+    pub fn place(&self) -> Place
+        ensures { result ≡ binder_place self.now }
+    {
+        match self {
+            Binder::Variable(at, _) | Binder::Wildcard(at) => *at,
+        }
+    }
+}
+
+impl Action {
+    /// The place of the command's first token.
+    pub fn place(&self) -> Place
+        ensures { result ≡ action_place (view_action self.now) }
+    {
+        match self {
+            Action::Put(at, _, _)
+            | Action::Get(at, _, _)
+            | Action::Hput(at, _, _)
+            | Action::Split(at, _, _, _)
+            | Action::Close(at, _) => *at,
+        }
+    }
+}
+
+impl Last {
+    /// The place of the command's first token.
+    #[tactic(auto, using(crate::proofs::Views::views))]
+    pub fn place(&self) -> Place
+        ensures { result ≡ command_place (view_last self.now) }
+    {
+        match self {
+            Last::Halt(at, _)
+            | Last::Hcase(at, _, _)
+            | Last::Fork(at, _, _, _)
+            | Last::Plug(at, _, _)
+            | Last::Race(at, _)
+            | Last::Case(at, _, _)
+            | Last::Identity(at, _, _, _)
+            | Last::Call(at, _, _, _, _) => *at,
+        }
+    }
 }
