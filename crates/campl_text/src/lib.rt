@@ -12,10 +12,18 @@
 //!     }
 #![tactic(auto)]
 
+mod file_shelf;
+mod mem_shelf;
+mod mem_sink;
 mod reading;
+mod std_sink;
 mod utf8;
 mod writing;
 
+pub use file_shelf::FileShelf;
+pub use mem_shelf::MemShelf;
+pub use mem_sink::MemSink;
 pub use reading::{Failed, Shelf, TextFault, read_text};
+pub use std_sink::StdSink;
 pub use utf8::{TEXT_BYTES_MAX, Text};
 pub use writing::{Sink, SinkFault, write_all_of};
