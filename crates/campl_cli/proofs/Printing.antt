@@ -7,7 +7,7 @@ use Rattle.campl_value.specs.Text.{text_of, chars_of, chars_of_text}
 use Rattle.campl_machine.specs.Names.{End, Who, Process, Service, Path, same_end, same_who, same_path}
 use Rattle.campl_machine.specs.Machine.{Config, update, both_ways, sent, taken, rest_of, moved, looked}
 use Rattle.campl_meaning.specs.Commands.{Name, same_name, Source, Body, Then, Ends, Put, HPut, Halt, Text, Console, constructor_number}
-use Rattle.campl_meaning.specs.Evaluation.{most_deep}
+use Rattle.campl_value.specs.declared.value.TheConstants.{MAX_DEPTH}
 use Rattle.campl_meaning.specs.States.{Message, Word, Pick, State, Runs, Serves, Running, Serving, Doing, Held, held, Phase, AwaitsPick, AwaitsText, Closed, Transcript, Record, Took, WasClosed}
 use Rattle.campl_meaning.specs.Services.{noting}
 use Rattle.campl_meaning.specs.Reductions.{Configuration, Event, Reduces, reduce, reduce_state}
@@ -56,6 +56,11 @@ one_less : (b : Bool) (owed : List Message) (m : Message) → (if b then rest_of
 one_less true owed m = refl
 one_less false owed m = refl
 
+-- nothing, whatever the test says
+nothing : (b : Bool) → ◌≡◌ {A = List Message} [] (if b then [] else [])
+nothing true = refl
+nothing false = refl
+
 -- `run` sends a message and goes on
 sent-at : (r t : State) (s : Serving) (owed : List Message) (m : Message) →
     moved (at (Some r) s owed) (Process []) (record { send = Some (near 0, m); channels = []; children = []; next = Some t }) ≡ at (Some t) s (owed ++ (m ∷ []))
@@ -99,7 +104,7 @@ picks-reduces name c number rest n s owed h =
     (0, rw (same_name-refl name, h) (ap (λ d. Some (at_end k.Pick (near 0) (Some (Pick number)), d)) (sent-at (running name (Then (HPut c name) rest) n) (running name rest (suc n)) s owed (Pick number))))
 
 -- a text that isn't too long is put
-puts-reduces : (name : Name) (text : List ℕ) (rest : Body) (n : ℕ) (s : Serving) (owed : List Message) → nat_le (depth_of (text_of text)) most_deep ≡ true →
+puts-reduces : (name : Name) (text : List ℕ) (rest : Body) (n : ℕ) (s : Serving) (owed : List Message) → nat_le (depth_of (text_of text)) MAX_DEPTH ≡ true →
     Reduces (at (Some (running name (Then (Put (Text text) name) rest) n)) s owed) (Process []) (at_end k.Put (near 0) (Some (Word (text_of text))))
         (at (Some (running name rest (suc n))) s (owed ++ (Word (text_of text) ∷ [])))
 puts-reduces name text rest n s owed h =
@@ -178,7 +183,7 @@ module _ (name : Name) (body : Body) where
       goes_before (sent_pick number) (Process []) (at_end k.Pick (near 0) (Some (Pick number))) (doing (Then (HPut c name) rest) n s owed) (doing rest (suc n) s (owed ++ (Pick number ∷ []))) d entries
           refl (says_pick number) (picks-reduces name c number rest n s owed h) run
 
-  text_first : (text : List ℕ) (rest : Body) (n : ℕ) (s : Serving) (owed : List Message) (entries : List Entry) (d : Configuration) → nat_le (depth_of (text_of text)) most_deep ≡ true →
+  text_first : (text : List ℕ) (rest : Body) (n : ℕ) (s : Serving) (owed : List Message) (entries : List Entry) (d : Configuration) → nat_le (depth_of (text_of text)) MAX_DEPTH ≡ true →
       Leads (doing rest (suc n) s (owed ++ (Word (text_of text) ∷ []))) entries d → Leads (doing (Then (Put (Text text) name) rest) n s owed) (sent_text text ∷ entries) d
   text_first text rest n s owed entries d h run =
       goes_before (sent_text text) (Process []) (at_end k.Put (near 0) (Some (Word (text_of text)))) (doing (Then (Put (Text text) name) rest) n s owed) (doing rest (suc n) s (owed ++ (Word (text_of text) ∷ []))) d entries
@@ -217,7 +222,7 @@ module _ (name : Name) (body : Body) where
   -- no text is too long
   abbrev AllFit : List (List ℕ) → Type 0
   AllFit [] = Unit {0}
-  AllFit (text ∷ texts) = (nat_le (depth_of (text_of text)) most_deep ≡ true) × AllFit texts
+  AllFit (text ∷ texts) = (nat_le (depth_of (text_of text)) MAX_DEPTH ≡ true) × AllFit texts
 
   -- where the close and what follows it are a run, the prints and that are a run
   sends-run : (texts : List (List ℕ)) (n : ℕ) (s : Serving) (owed : List Message) (tail : List Entry) (d : Configuration) → AllFit texts →
@@ -272,7 +277,3 @@ module _ (name : Name) (body : Body) where
       let first : Configuration = doing (printing name texts) 0 (console_in AwaitsPick []) [] in
       let o : ◌≡◌ {A = End → List Message} (λ e. []) first.owed = fun_ext (λ e. nothing (same_end (near 0) e)) in
       λ i. record { nodes = first.nodes; partner = first.partner; owed = o i }
-    where
-      nothing : (b : Bool) → [] ≡ (if b then [] else [])
-      nothing true = refl
-      nothing false = refl

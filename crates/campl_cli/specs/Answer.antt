@@ -103,3 +103,13 @@ pub record CouldNotTell (words : List (List ℕ)) (files : Files) (out err : Str
 abbrev pub IsAnswer : List (List ℕ) → Files → (out err : Stream) → Report → Type 0
 IsAnswer words files out err report =
     Ran words files out err report ⊎ (CouldNotPrint words files out err report ⊎ (WasRefused words files out err report ⊎ CouldNotTell words files out err report))
+
+-- the refusal's line is written and its status answered, or 6 where the line couldn't be written
+pub record IsTold (refusal : Refusal) (err : Stream) (report : Report) : Type 0 where
+  pub no_run : HasNoRun report
+  pub answer : ((report.status ≡ status_of refusal) × (Had err (line_of refusal) ⊎ ((refusal ≡ OutOfMemory) × FailedIn err (line_of refusal))))
+      ⊎ ((report.status ≡ 6) × (refusal ≢ OutOfMemory) × FailedIn err (line_of refusal))
+
+-- the same, but for want of memory, which may come in the place of the refusal
+abbrev pub IsRefused : Refusal → Stream → Report → Type 0
+IsRefused refusal err report = IsTold refusal err report ⊎ IsTold OutOfMemory err report

@@ -25,7 +25,8 @@ run_end = 0
 abbrev service_end : ℕ
 service_end = 1
 
-abbrev entry : ℕ → k.Kind → ℕ → Option Told → Entry
+-- something happened at an end, with a message or without
+abbrev pub entry : ℕ → k.Kind → ℕ → Option Told → Entry
 entry process kind end message = record { process = process; kind = kind; weight = 1; end = Some end; second = None; message = message; child = None; channel = None; channel2 = None }
 
 abbrev pub sent_pick : ℕ → Entry

@@ -48,19 +48,28 @@ pub record Files : Type 0 where
 abbrev pub IsText : List ℕ → List ℕ → Type 0
 IsText contents text = IsReading contents source_limit (Ok text)
 
--- the words name a file of which this holds, where it is told
-abbrev pub OfFile : List (List ℕ) → Files → (List ℕ → Type 0) → Type 0
-OfFile words files P = (file : List ℕ) × IsCommand words file × IfSome (files.held file) P
+-- the file's source is of the form, and prints this
+abbrev pub IsSource : Files → (file : List ℕ) → Prints → Type 0
+IsSource files file p = (text : List ℕ) × IsFormOf p text × IfSome (files.held file) (λ contents. IsText contents text)
 
--- the source is of the form, and prints this
+-- the words name a file whose source is of the form, and prints this
 abbrev pub IsAccepted : List (List ℕ) → Files → Prints → Type 0
-IsAccepted words files p = OfFile words files (λ contents. (text : List ℕ) × IsText contents text × IsFormOf p text)
+IsAccepted words files p = (file : List ℕ) × IsCommand words file × IsSource files file p
 
--- when each refusal comes; want of memory alone comes freely
+-- when a file's source is refused so; want of memory alone comes freely
+abbrev pub IsRefusedSource : Files → (file : List ℕ) → Refusal → Type 0
+IsRefusedSource files file BadCommandLine = ⊥
+IsRefusedSource files file ReadFault = Rose (files.before file) (files.after file)
+IsRefusedSource files file TooLong = IfSome (files.held file) (λ contents. source_limit < length contents)
+IsRefusedSource files file (NotUtf8 at) = IfSome (files.held file) (λ contents. IsReading contents source_limit (Err (t.NotUtf8 at)))
+IsRefusedSource files file NotBuilt = (text : List ℕ) × ((p : Prints) → IsFormOf p text → ⊥) × IfSome (files.held file) (λ contents. IsText contents text)
+IsRefusedSource files file OutOfMemory = ⊤
+
+-- when a command is refused so: its words are no command, or the source of its file is refused
 abbrev pub IsDue : List (List ℕ) → Files → Refusal → Type 0
 IsDue words files BadCommandLine = (file : List ℕ) → IsCommand words file → ⊥
-IsDue words files ReadFault = (file : List ℕ) × IsCommand words file × Rose (files.before file) (files.after file)
-IsDue words files TooLong = OfFile words files (λ contents. source_limit < length contents)
-IsDue words files (NotUtf8 at) = OfFile words files (λ contents. IsReading contents source_limit (Err (t.NotUtf8 at)))
-IsDue words files NotBuilt = OfFile words files (λ contents. (text : List ℕ) × IsText contents text × ((p : Prints) → IsFormOf p text → ⊥))
+IsDue words files ReadFault = (file : List ℕ) × IsCommand words file × IsRefusedSource files file ReadFault
+IsDue words files TooLong = (file : List ℕ) × IsCommand words file × IsRefusedSource files file TooLong
+IsDue words files (NotUtf8 at) = (file : List ℕ) × IsCommand words file × IsRefusedSource files file (NotUtf8 at)
+IsDue words files NotBuilt = (file : List ℕ) × IsCommand words file × IsRefusedSource files file NotBuilt
 IsDue words files OutOfMemory = ⊤
