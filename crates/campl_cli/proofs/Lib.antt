@@ -3,3 +3,4 @@ pub mod Printing
 pub mod Depths
 pub mod Streams
 pub mod Lines
+pub mod TopCall

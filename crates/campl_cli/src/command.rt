@@ -35,7 +35,8 @@ pub fn campl<R: Threads + Sync, F: Shelf, O: Sink, E: Sink, G: Gate>(
         (record { before = E.written err.old; after = E.written err.new; faults_before = E.faults err.old; faults_after = E.faults err.new })
         result }
 {
-    let _ = (rt, gate);
+    let _ = rt;
+    let _ = gate;
     match perform_words(alloc, words, shelf) {
         Ok(performance) => print(performance, out, err),
         Err(refusal) => refuse(alloc, refusal, err),

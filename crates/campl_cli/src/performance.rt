@@ -1,8 +1,10 @@
 //! What a run did and prints, before any of it is written.
 ghost use Rattle.std.specs.Prelude.{◌≡◌, Some, IfOk};
 ghost use Rattle.campl_config.specs.Journal.{weight_of};
+ghost use Rattle.campl_cli.specs.Answer.{HadOrFailed};
 ghost use Rattle.campl_cli.specs.Form.{IsFine, prints_of};
 ghost use Rattle.campl_cli.specs.Performance.{IsPerformance, IsPrinted};
+ghost use Rattle.campl_cli.specs.Refusals.{write_fault_line};
 
 use crate::output::output;
 use crate::reader::Printer;
@@ -45,9 +47,19 @@ pub fn print<O: Sink, E: Sink>(performance: Performance, out: &mut O, err: &mut 
     match write_all_of(out, output.as_bytes()) {
         Ok(()) => finished(0, journal),
         Err(_) => {
-            let _ = write_all_of(err, WRITE_FAULT_LINE.as_bytes());
+            tell_write_fault(err);
             finished(WRITE_FAULT, journal)
         }
+    }
+}
+
+// Writes the line of a failed write, as far as it can be written.
+fn tell_write_fault<E: Sink>(err: &mut E)
+    ensures { HadOrFailed (record { before = E.written err.old; after = E.written err.new; faults_before = E.faults err.old; faults_after = E.faults err.new }) write_fault_line }
+{
+    match write_all_of(err, WRITE_FAULT_LINE.as_bytes()) {
+        Ok(()) => (),
+        Err(_) => (),
     }
 }
 
