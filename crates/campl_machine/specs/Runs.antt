@@ -1,5 +1,5 @@
 -- Runs of labelled reductions, whatever is reduced: `Red a l b` says that a becomes b by the reduction l.
-use Rattle.std.specs.Prelude.{◌≡◌, ℕ, zero, suc, List, ◌++◌}
+use Rattle.std.specs.Prelude.{◌≡◌, ◌≢◌, ℕ, zero, suc, List, ◌++◌, Option, Some}
 
 -- n reductions, one after another
 abbrev pub Run : {C L : Type 0} → (C → L → C → Type 0) → ℕ → C → C → Type 0
@@ -17,3 +17,11 @@ Stuck {C} {L} Red s = (l : L) (c : C) → Red s l c → ⊥
 -- ys begins with xs
 abbrev pub IsPrefixOf : {A : Type 0} → List A → List A → Type 0
 IsPrefixOf {A} xs ys = (rest : List A) × (xs ++ rest ≡ ys)
+
+-- the reductions that a function computes: `step a l` is what a becomes by l, if it can
+abbrev pub By : {C L : Type 0} → (C → L → Option C) → C → L → C → Type 0
+By step a l b = step a l ≡ Some b
+
+-- two different reductions of a can be made in both orders, and lead to one state
+abbrev pub Diamond : {C L : Type 0} → (C → L → C → Type 0) → C → Type 0
+Diamond {C} {L} Red a = (l m : L) (b c : C) → l ≢ m → Red a l b → Red a m c → (d : C) × Red b m d × Red c l d
