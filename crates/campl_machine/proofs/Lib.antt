@@ -1,0 +1,13 @@
+pub mod Same
+pub mod Updates
+pub mod Ends
+pub mod Owed
+pub mod Wired
+pub mod Performs
+pub mod Partners
+pub mod BothOrders
+pub mod Meeting
+pub mod Confluence
+pub mod Bridges
+pub mod Surgery
+pub mod Beside

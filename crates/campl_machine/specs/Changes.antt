@@ -1,5 +1,5 @@
 -- What the steps of a machine do to the graph of its nodes: g is the graph before, and h the graph after.
-use Rattle.std.specs.Prelude.{◌≡◌, ◌≢◌, ◌⊎◌, Option, Some, None}
+use Rattle.std.specs.Prelude.{◌≡◌, ◌≢◌, ◌⊎◌, Some, None}
 use Rattle.campl_machine.specs.Names.{End, same_end}
 use Rattle.campl_machine.specs.Machine.{update, rewired}
 use Rattle.campl_machine.specs.Graph.{Graph, Leads}

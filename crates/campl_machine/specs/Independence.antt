@@ -28,9 +28,10 @@ NotBoth c (Looks u x k) B = Unit {0}
 NotBoth c Stands B = Unit {0}
 NotBoth c Breaks B = Unit {0}
 
--- b, where p has done A, and d, where q has done B, become one configuration when the other step is made too
-abbrev pub BothOrders : {S M : Type 0} → Config S M → Config S M → Who → Act S M → Who → Act S M → Type 0
-BothOrders {S} {M} b d p A q B = (e : Config S M) × (performs b q B ≡ Some e) × (performs d p A ≡ Some e)
+-- where p can do A and q can do B, each stays possible after the other, and both orders lead to one configuration
+abbrev pub Commute : {S M : Type 0} → Config S M → Who → Act S M → Who → Act S M → Type 0
+Commute {S} {M} c p A q B =
+    (b d : Config S M) → performs c p A ≡ Some b → performs c q B ≡ Some d → (e : Config S M) × (performs b q B ≡ Some e) × (performs d p A ≡ Some e)
 
 -- a step that bears no channel and no child
 abbrev pub BearsNothing : {S M : Type 0} → Act S M → Type 0

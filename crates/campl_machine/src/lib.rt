@@ -1,2 +1,8 @@
-//! A machine
+//! A machine of processes and services that pass messages over channels with two ends, and the laws of its steps.
 #![tactic(auto)]
+
+mod diamond;
+mod step;
+
+pub use diamond::{law_diamond, law_identity, law_independent, law_send_and_receipt};
+pub use step::{law_partners, law_step};
