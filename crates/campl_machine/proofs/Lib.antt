@@ -11,3 +11,4 @@ pub mod Confluence
 pub mod Bridges
 pub mod Surgery
 pub mod Beside
+pub mod OneAnswer

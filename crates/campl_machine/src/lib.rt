@@ -1,8 +1,10 @@
 //! A machine of processes and services that pass messages over channels with two ends, and the laws of its steps.
 #![tactic(auto)]
 
+mod answer;
 mod diamond;
 mod step;
 
+pub use answer::{law_one_answer, law_prefixes};
 pub use diamond::{law_diamond, law_identity, law_independent, law_send_and_receipt};
 pub use step::{law_partners, law_step};
