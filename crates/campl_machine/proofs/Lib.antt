@@ -12,3 +12,4 @@ pub mod Bridges
 pub mod Surgery
 pub mod Beside
 pub mod OneAnswer
+pub mod Descent

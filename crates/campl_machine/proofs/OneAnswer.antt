@@ -1,16 +1,9 @@
 -- Runs by a function whose steps have the diamond: they end alike, and what they show are prefixes of one another.
-use Rattle.std.proofs.Common.{◌≡◌, ◌≢◌, ℕ, zero, suc, ◌+◌, ◌≤◌, Bool, List, ◌⊎◌, inl, inr, refl, sym, ap, subst, ◌∙◌, arith, Option, true≢false}
+use Rattle.std.proofs.Common.{◌≡◌, ◌≢◌, ℕ, zero, suc, ◌+◌, ◌≤◌, Bool, List, ◌⊎◌, refl, sym, subst, ◌∙◌, arith, Option}
 use Rattle.campl_machine.specs.Names.{TellsApart}
 use Rattle.campl_machine.specs.Runs.{Run, Reaches, Stuck, By, Diamond, IsPrefixOf}
-use Rattle.campl_machine.proofs.Updates.{split}
+use Rattle.campl_machine.proofs.Updates.{decides}
 use Rattle.campl_machine.proofs.Confluence.{one_end, prefix}
-
--- a test decides
-pub decides : {K : Type 0} (same : K → K → Bool) → TellsApart same → (a b : K) → (a ≡ b) ⊎ (a ≢ b)
-decides same t a b = elim (split (same a b)) [
-  | inl i ↦ inl (t.is a b i)
-  | inr i ↦ inr (λ k. true≢false (sym (t.own a) ∙ (ap (same a) k ∙ i)))
-]
 
 -- one more step at the end of a run
 after : {C L : Type 0} (Red : C → L → C → Type 0) (n : ℕ) (a b c : C) (l : L) → Run Red n a b → Red b l c → Run Red (suc n) a c

@@ -1,6 +1,7 @@
 -- Updates of a function at listed places.
 use Rattle.std.proofs.Common.{◌≡◌, ◌≢◌, Bool, true, false, List, [], ◌∷◌, ◌&&◌, ◌⊎◌, inl, inr, refl, sym, ap, ◌∙◌, true≢false}
 use Rattle.std.proofs.Math.Path.{fun_ext}
+use Rattle.campl_machine.specs.Names.{TellsApart}
 use Rattle.campl_machine.specs.Machine.{update, Lies}
 
 pub split : (b : Bool) → (b ≡ true) ⊎ (b ≡ false)
@@ -14,6 +15,13 @@ both false b e = absurd (cc e)
 
 pub differ : {K : Type 0} → (same : K → K → Bool) → ((a b : K) → same a b ≡ true → a ≡ b) → (a b : K) → a ≢ b → same a b ≡ false
 differ same is a b ne = elim (split (same a b)) [ inl e ↦ absurd (ne (is a b e)) | inr e ↦ e ]
+
+-- a test decides
+pub decides : {K : Type 0} (same : K → K → Bool) → TellsApart same → (a b : K) → (a ≡ b) ⊎ (a ≢ b)
+decides same t a b = elim (split (same a b)) [
+  | inl i ↦ inl (t.is a b i)
+  | inr i ↦ inr (λ k. true≢false (sym (t.own a) ∙ (ap (same a) k ∙ i)))
+]
 
 module _ {K V : Type 0} (same : K → K → Bool) (is : (a b : K) → same a b ≡ true → a ≡ b) (own : (a : K) → same a a ≡ true) where
   pub elsewhere : (d : List (K × V)) (f : K → V) (k : K) → (Lies d k → ⊥) → update same d f k ≡ f k

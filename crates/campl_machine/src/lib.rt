@@ -3,8 +3,10 @@
 
 mod answer;
 mod diamond;
+mod progress;
 mod step;
 
 pub use answer::{law_one_answer, law_prefixes};
 pub use diamond::{law_diamond, law_identity, law_independent, law_send_and_receipt};
+pub use progress::law_progress;
 pub use step::{law_partners, law_step};
