@@ -13,3 +13,6 @@ pub mod Surgery
 pub mod Beside
 pub mod OneAnswer
 pub mod Descent
+pub mod IdentityForest
+pub mod Shapes
+pub mod Forking

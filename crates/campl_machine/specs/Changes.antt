@@ -42,9 +42,7 @@ pub record Identity {N : Type 0} (g h : Graph End N) (p : N) (x y x2 y2 : End) :
 
 -- a receipt by p on x of a message that carries ends: the message is a node, at whose end z it lies, and its other ends come to p
 pub record Receipt {E N : Type 0} (g h : Graph E N) (p message : N) (x z : E) : Type 0 where
-  pub channel : g.partner x ≡ Some z
-  pub at_x : g.at x ≡ Some p
-  pub at_z : g.at z ≡ Some message
+  pub lies : Leads g x z p message
   pub partners : h.partner ≡ g.partner
   pub gone : (e : E) → (e ≡ x) ⊎ (e ≡ z) → h.at e ≡ None
   pub others : (e : E) → e ≢ x → e ≢ z → (h.at e ≡ g.at e) ⊎ ((g.at e ≡ Some message) × (h.at e ≡ Some p))
