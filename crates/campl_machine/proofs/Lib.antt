@@ -16,3 +16,4 @@ pub mod Descent
 pub mod IdentityForest
 pub mod Shapes
 pub mod Forking
+pub mod Examples

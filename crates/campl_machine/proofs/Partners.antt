@@ -44,7 +44,8 @@ one-channel f a b m ab fa fb = record {
       ]
     ]
 
-births : (cs : List (End × End)) (f : End → Option End) → Mutual f → AllNew cs → ((e : End) → Lies (both_ways cs) e → f e ≡ None) → Mutual (update same_end (both_ways cs) f)
+-- channels of new ends are mutual
+pub births : (cs : List (End × End)) (f : End → Option End) → Mutual f → AllNew cs → ((e : End) → Lies (both_ways cs) e → f e ≡ None) → Mutual (update same_end (both_ways cs) f)
 births [] f m n fresh = m
 births (c ∷ cs) f m n fresh =
     one-channel (update same_end (both_ways cs) f) c.0 c.1 (births cs f m n.3 (λ e l. fresh e (inr (inr l)))) n.0
