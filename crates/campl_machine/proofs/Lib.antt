@@ -17,3 +17,4 @@ pub mod IdentityForest
 pub mod Shapes
 pub mod Forking
 pub mod Examples
+pub mod Programs

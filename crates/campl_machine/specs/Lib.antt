@@ -5,3 +5,4 @@ pub mod Runs
 pub mod Graph
 pub mod Changes
 pub mod Progress
+pub mod Programs

@@ -3,6 +3,8 @@
 ghost use Rattle.std.specs.Prelude.{◌≡◌, ◌≢◌, Bool, Option, Some};
 ghost use Rattle.campl_machine.specs.Names.{End, Who};
 ghost use Rattle.campl_machine.specs.Machine.{Act, Config, Links, Looks, Moves, Uses};
+ghost use Rattle.campl_machine.specs.Programs.{KeepsApart, reduce};
+ghost use Rattle.campl_machine.specs.Runs.{By, Diamond};
 ghost use Rattle.campl_machine.specs.Independence.{BearsNothing, Commute, Independent, NotBoth, Paired, only_sends};
 
 /// Two independent steps stay possible after one another, and both orders give equal configurations.
@@ -26,4 +28,11 @@ pub fn law_identity<S, M>()
     ensures send { (c : Config S M) (p q : Who) (x y x2 : End) (v : M) (s : Option S) → Paired c → p ≢ q → c.partner x ≡ Some x2 → Commute c p (Moves (only_sends x2 v s)) q (Links x y) }
     ensures receipt { (c : Config S M) (p q : Who) (x y x2 : End) (takes : Bool) (k : M → Option S) → Paired c → p ≢ q → c.partner x ≡ Some x2 → Commute c p (Looks takes x2 k) q (Links x y) }
     ensures identity { (c : Config S M) (p q : Who) (x y x2 w : End) → Paired c → p ≢ q → c.partner x ≡ Some x2 → w ≢ x → w ≢ y → c.partner y ≢ Some w → Commute c p (Links x2 w) q (Links x y) }
+{}
+
+/// Where a program's steps are independent, its reductions have the diamond, whatever choices the nodes make.
+/// With the choice held fixed this is the premise of `law_one_answer` and of `law_prefixes`.
+pub fn law_program<S, M, I>()
+    ensures both_orders { (act : Who → S → I → Act S M) (c : Config S M) → KeepsApart act c → (p q : Who) (i j : I) (b d : Config S M) → p ≢ q → reduce act c p i ≡ Some b → reduce act c q j ≡ Some d → (e : Config S M) × (reduce act b q j ≡ Some e) × (reduce act d p i ≡ Some e) }
+    ensures diamond { (act : Who → S → I → Act S M) (c : Config S M) → KeepsApart act c → (i : I) → Diamond (By (λ a w. reduce act a w i)) c }
 {}

@@ -1,9 +1,15 @@
 //! What a step is, and what it keeps.
 
 ghost use Rattle.std.specs.Prelude.{◌≡◌, None, Some};
-ghost use Rattle.campl_machine.specs.Names.{End, Who};
+ghost use Rattle.campl_machine.specs.Names.{End, TellsApart, Who, same_end, same_who};
 ghost use Rattle.campl_machine.specs.Machine.{Act, Config, Does, Lies, ends_born, performs};
 ghost use Rattle.campl_machine.specs.Independence.{BearsNew, Paired};
+
+/// The tests of names tell exactly the equal ones.
+pub fn law_names()
+    ensures ends { TellsApart same_end }
+    ensures nodes { TellsApart same_who }
+{}
 
 /// The step that `performs` computes is the one that `Does` tells, and there is none where `Does` tells none.
 pub fn law_step<S, M>()
