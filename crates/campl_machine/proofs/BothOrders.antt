@@ -86,7 +86,7 @@ module _ {S M : Type 0} where
       linked (linked c p x y x2 y2) q u v u2 v2 ≡ linked (linked c q u v u2 v2) p x y x2 y2
   links-apart c p q x y x2 y2 u v u2 v2 pq ou ov ou2 ov2 =
       let a : (linked (linked c p x y x2 y2) q u v u2 v2).nodes ≡ (linked (linked c q u v u2 v2) p x y x2 y2).nodes = nodes-swap ((q, None) ∷ []) ((p, None) ∷ []) c.nodes (λ w i j. elim i [ inl r ↦ elim j [ inl k ↦ pq (k ∙ sym r) | inr k ↦ k ] | inr r ↦ r ]) in
-      let clash : (e : End) → Off x y x2 y2 e → Lies (rewired x y x2 y2) e → ⊥ = λ e f l. elim l [ inl i ↦ f.a i | inr (inl i) ↦ f.b i | inr (inr (inl i)) ↦ f.c i | inr (inr (inr (inl i))) ↦ f.d i | inr (inr (inr (inr i))) ↦ absurd i ] in
+      let clash : (e : End) → Off x y x2 y2 e → Lies (rewired x y x2 y2) e → ⊥ = λ e f l. elim l [ inl i ↦ f.not_x i | inr (inl i) ↦ f.not_y i | inr (inr (inl i)) ↦ f.not_x2 i | inr (inr (inr (inl i))) ↦ f.not_y2 i | inr (inr (inr (inr i))) ↦ absurd i ] in
       let b : (linked (linked c p x y x2 y2) q u v u2 v2).partner ≡ (linked (linked c q u v u2 v2) p x y x2 y2).partner =
       swap_updates same_end same_end-is same_end-refl (rewired u v u2 v2) (rewired x y x2 y2) c.partner (λ e l j. elim l [
         | inl i ↦ clash u ou (subst (Lies (rewired x y x2 y2)) (sym i) j)

@@ -82,12 +82,12 @@ module _ {E N : Type 0} (g : Graph E N) (same_node : (x y : N) → (x ≡ y) ⊎
     ]
   ]
 
-  pub progress : (ys : List N) → ((u : N) → there u ≡ true → Within ys u) → Points g there point → EachBridge g → (u : N) → there u ≡ true → Finds
-  progress ys all points each u tu = elim (look ys) [
+  pub progress : (ys : List N) → Points g ys there point → EachBridge g → (u : N) → there u ≡ true → Finds
+  progress ys points each u tu = elim (look ys) [
     | inl f ↦ f
-    | inr k ↦ absurd (descend g same_node point (length ys) ys (omega arith) each (λ w. there w ≡ true) all
+    | inr k ↦ absurd (descend g same_node point (length ys) ys (omega arith) each (λ w. there w ≡ true) points.listed
         (record {
-          on = λ w t. let e : (e : E) × (point w ≡ Some e) = k w (all w t) t in
+          on = λ w t. let e : (e : E) × (point w ≡ Some e) = k w (points.listed w t) t in
               let l : (f : E) × (v : N) × Leads g e.0 f w v × (there v ≡ true) = points.along w e.0 t e.1 in
               (e.0, l.0, l.1, e.1, l.2, l.3);
           once = λ a b e f qa qb pa pb l. points.once a b e f pa pb l;
@@ -95,8 +95,8 @@ module _ {E N : Type 0} (g : Graph E N) (same_node : (x y : N) → (x ≡ y) ⊎
   ]
 
 -- progress in a graph with no cycle
-pub some-stops : {E N : Type 0} (same_edge : E → E → Bool) (same_node : N → N → Bool) → TellsApart same_edge → TellsApart same_node → (g : Graph E N) (there : N → Bool) (point : N → Option E) (ys : List N) →
-    ((u : N) → there u ≡ true → Within ys u) → Points g there point → NoCycle g → (u : N) → there u ≡ true → (v : N) × (there v ≡ true) × (point v ≡ None)
+pub some-stops : {E N : Type 0} (same_edge : E → E → Bool) (same_node : N → N → Bool) → TellsApart same_edge → TellsApart same_node → (g : Graph E N) (ys : List N) (there : N → Bool) (point : N → Option E) →
+    Points g ys there point → NoCycle g → (u : N) → there u ≡ true → (v : N) × (there v ≡ true) × (point v ≡ None)
 unfolding Finds
-some-stops same_edge same_node edges nodes g there point ys all points forest u tu =
-    progress g (decides same_node nodes) there point ys all points (each_bridge g (decides same_edge edges) forest) u tu
+some-stops same_edge same_node edges nodes g ys there point points forest u tu =
+    progress g (decides same_node nodes) there point ys points (each_bridge g (decides same_edge edges) forest) u tu

@@ -27,10 +27,10 @@ same-some (Some y) v = elim (same-end y v) [ inl i ↦ inl (ap Some i) | inr n �
 
 -- e is none of the four ends round an identity
 pub record Off (x y x2 y2 e : End) : Type 0 where
-  pub a : x ≢ e
-  pub b : y ≢ e
-  pub c : x2 ≢ e
-  pub d : y2 ≢ e
+  pub not_x : x ≢ e
+  pub not_y : y ≢ e
+  pub not_x2 : x2 ≢ e
+  pub not_y2 : y2 ≢ e
 
 -- six ends, all different
 pub record Six (x y u y2 v v2 : End) : Type 0 where

@@ -43,10 +43,10 @@ module _ {N : Type 0} where
           inr (inr (
             o,
             record {
-              a = λ i. o.c (cc (back e f pe, px, i));
-              b = λ i. o.d (cc (back e f pe, py, i));
-              c = λ i. o.a (cc (back e f pe, back x x2 px, i));
-              d = λ i. o.b (cc (back e f pe, back y y2 py, i));
+              not_x = λ i. o.not_x2 (cc (back e f pe, px, i));
+              not_y = λ i. o.not_y2 (cc (back e f pe, py, i));
+              not_x2 = λ i. o.not_x (cc (back e f pe, back x x2 px, i));
+              not_y2 = λ i. o.not_y (cc (back e f pe, back y y2 py, i));
             },
             pe,
           ))
@@ -80,7 +80,7 @@ module _ {N : Type 0} where
             let sv : stand y2 ≡ Some u = cc (same y2 (ne x y2 xy2) (ne y y2 yy2), l.from, i) in
             (u, P, rw (re, rf) (record { there = back y y2 py; back = py; from = sv; to = sy }), inl refl, inr (refl, sym uA))
         | inr (inr (o, q, pe)) ↦
-            (u, v, rw (old_name-off e o.c, old_name-off f q.c) (record { there = pe; back = back e f pe; from = sym (same e (ne x e o.a) (ne y e o.b)) ∙ l.from; to = sym (same f (ne x f q.a) (ne y f q.b)) ∙ l.to }), inl refl, inl refl)
+            (u, v, rw (old_name-off e o.not_x2, old_name-off f q.not_x2) (record { there = pe; back = back e f pe; from = sym (same e (ne x e o.not_x) (ne y e o.not_y)) ∙ l.from; to = sym (same f (ne x f q.not_x) (ne y f q.not_y)) ∙ l.to }), inl refl, inl refl)
       ]
 
       -- the new graph's halves aren't x or y
@@ -123,7 +123,7 @@ module _ {N : Type 0} where
       | inl n ↦ remove before after (λ e f u v l. elim (kinds e f l.there) [
         | inl (i, j) ↦ absurd (cc (n, same x2 (ne x x2 xx2) x2y, l.from, i))
         | inr (inl (i, j)) ↦ absurd (cc (n, same x2 (ne x x2 xx2) x2y, l.to, j))
-        | inr (inr (o, q, pe)) ↦ record { there = pe; back = back e f pe; from = sym (same e (ne x e o.a) (ne y e o.b)) ∙ l.from; to = sym (same f (ne x f q.a) (ne y f q.b)) ∙ l.to }
+        | inr (inr (o, q, pe)) ↦ record { there = pe; back = back e f pe; from = sym (same e (ne x e o.not_x) (ne y e o.not_y)) ∙ l.from; to = sym (same f (ne x f q.not_x) (ne y f q.not_y)) ∙ l.to }
       ]) each
     ]
 

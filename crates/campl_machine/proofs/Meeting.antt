@@ -69,8 +69,8 @@ module _ {S M : Type 0} where
               m,
               rest,
               s,
-              wired-off u v u2 v2 c.partner x (record { a = ne x u xu; b = ne x v xv; c = ne x u2 xu2; d = ne x v2 xv2 }) ∙ px,
-              off u v u2 v2 c.owed z (record { a = ne z u zu; b = ne z v zv; c = ne z u2 zu2; d = ne z v2 zv2 }) ∙ is,
+              wired-off u v u2 v2 c.partner x (record { not_x = ne x u xu; not_y = ne x v xv; not_x2 = ne x u2 xu2; not_y2 = ne x v2 xv2 }) ∙ px,
+              off u v u2 v2 c.owed z (record { not_x = ne z u zu; not_y = ne z v zv; not_x2 = ne z u2 zu2; not_y2 = ne z v2 zv2 }) ∙ is,
               fits,
               sym (looks-links-off c p q t s z u v u2 v2 pq zu zv zu2 zv2),
             ) in
@@ -122,9 +122,9 @@ module _ {S M : Type 0} where
       let ed2 : d ≡ linked c q u v x v2 = subst (λ k. d ≡ linked c q u v k v2) j ed in
       let e : Config S M = linked (linked c p x y u y2) q u v y2 v2 in
       let before : Does (linked c p x y u y2) q (Links u v) e =
-      (y2, v2, wired-x2 x y u y2 c.partner six.xu six.yu, wired-off x y u y2 c.partner v (record { a = six.xv; b = six.yv; c = six.uv; d = six.y2v }) ∙ pv, uv, y2v, refl) in
+      (y2, v2, wired-x2 x y u y2 c.partner six.xu six.yu, wired-off x y u y2 c.partner v (record { not_x = six.xv; not_y = six.yv; not_x2 = six.uv; not_y2 = six.y2v }) ∙ pv, uv, y2v, refl) in
       let after : Does (linked c q u v x v2) p (Links x y) e =
-      (v2, y2, wired-x2 u v x v2 c.partner (ne x u six.xu) (ne x v six.xv), wired-off u v x v2 c.partner y (record { a = ne y u six.yu; b = ne y v six.yv; c = six.xy; d = ne y v2 six.yv2 }) ∙ py, xy, ne y v2 yv2, links-shared c p q x y u y2 v v2 pq six) in
+      (v2, y2, wired-x2 u v x v2 c.partner (ne x u six.xu) (ne x v six.xv), wired-off u v x v2 c.partner y (record { not_x = ne y u six.yu; not_y = ne y v six.yv; not_x2 = six.xy; not_y2 = ne y v2 six.yv2 }) ∙ py, xy, ne y v2 yv2, links-shared c p q x y u y2 v v2 pq six) in
       (e, subst (λ k. Does k q (Links u v) e) (sym eb2) before, subst (λ k. Does k p (Links x y) e) (sym ed2) after)
 
   turn-links-first : (b d : Config S M) (p q : Who) (B : Act S M) (x y : End) → Paired d → Meets b d p (Links x y) q B → Meets b d p (Links y x) q B
@@ -148,17 +148,17 @@ module _ {S M : Type 0} where
               let (u2, v2, pu, pv, uv, u2v, ed) = dd in
               let bu : c.partner u2 ≡ Some u = pr.back u u2 pu in
               let bv : c.partner v2 ≡ Some v = pr.back v v2 pv in
-              let ou : Off x y x2 y2 u = record { a = nxu; b = nyu; c = λ k. xu (cc (px, k)); d = λ k. yu (cc (py, k)) } in
-              let ov : Off x y x2 y2 v = record { a = nxv; b = nyv; c = λ k. xv (cc (px, k)); d = λ k. yv (cc (py, k)) } in
-              let ou2 : Off x y x2 y2 u2 = record { a = λ k. xu (cc (bu, k)); b = λ k. yu (cc (bu, k)); c = λ k. nxu (cc (pr.back x x2 px, bu, k)); d = λ k. nyu (cc (pr.back y y2 py, bu, k)) } in
-              let ov2 : Off x y x2 y2 v2 = record { a = λ k. xv (cc (bv, k)); b = λ k. yv (cc (bv, k)); c = λ k. nxv (cc (pr.back x x2 px, bv, k)); d = λ k. nyv (cc (pr.back y y2 py, bv, k)) } in
+              let ou : Off x y x2 y2 u = record { not_x = nxu; not_y = nyu; not_x2 = λ k. xu (cc (px, k)); not_y2 = λ k. yu (cc (py, k)) } in
+              let ov : Off x y x2 y2 v = record { not_x = nxv; not_y = nyv; not_x2 = λ k. xv (cc (px, k)); not_y2 = λ k. yv (cc (py, k)) } in
+              let ou2 : Off x y x2 y2 u2 = record { not_x = λ k. xu (cc (bu, k)); not_y = λ k. yu (cc (bu, k)); not_x2 = λ k. nxu (cc (pr.back x x2 px, bu, k)); not_y2 = λ k. nyu (cc (pr.back y y2 py, bu, k)) } in
+              let ov2 : Off x y x2 y2 v2 = record { not_x = λ k. xv (cc (bv, k)); not_y = λ k. yv (cc (bv, k)); not_x2 = λ k. nxv (cc (pr.back x x2 px, bv, k)); not_y2 = λ k. nyv (cc (pr.back y y2 py, bv, k)) } in
               let e : Config S M = linked (linked c p x y x2 y2) q u v u2 v2 in
               let before : Does (linked c p x y x2 y2) q (Links u v) e = (u2, v2, wired-off x y x2 y2 c.partner u ou ∙ pu, wired-off x y x2 y2 c.partner v ov ∙ pv, uv, u2v, refl) in
               let after : Does (linked c q u v u2 v2) p (Links x y) e = (
                 x2,
                 y2,
-                wired-off u v u2 v2 c.partner x (record { a = ne x u nxu; b = ne x v nxv; c = ne x u2 ou2.a; d = ne x v2 ov2.a }) ∙ px,
-                wired-off u v u2 v2 c.partner y (record { a = ne y u nyu; b = ne y v nyv; c = ne y u2 ou2.b; d = ne y v2 ov2.b }) ∙ py,
+                wired-off u v u2 v2 c.partner x (record { not_x = ne x u nxu; not_y = ne x v nxv; not_x2 = ne x u2 ou2.not_x; not_y2 = ne x v2 ov2.not_x }) ∙ px,
+                wired-off u v u2 v2 c.partner y (record { not_x = ne y u nyu; not_y = ne y v nyv; not_x2 = ne y u2 ou2.not_y; not_y2 = ne y v2 ov2.not_y }) ∙ py,
                 xy,
                 x2y,
                 links-apart c p q x y x2 y2 u v u2 v2 pq ou ov ou2 ov2,

@@ -1,7 +1,7 @@
 -- Runs by a function whose steps have the diamond: they end alike, and what they show are prefixes of one another.
-use Rattle.std.proofs.Common.{◌≡◌, ◌≢◌, ℕ, zero, suc, ◌+◌, ◌≤◌, Bool, List, ◌⊎◌, refl, sym, subst, ◌∙◌, arith, Option}
+use Rattle.std.proofs.Common.{◌≡◌, ◌≢◌, ℕ, zero, suc, ◌+◌, Bool, List, refl, sym, subst, ◌∙◌, arith, Option}
 use Rattle.campl_machine.specs.Names.{TellsApart}
-use Rattle.campl_machine.specs.Runs.{Run, Reaches, Stuck, By, Diamond, IsPrefixOf}
+use Rattle.campl_machine.specs.Runs.{Run, Reaches, Stuck, By, DiamondsFrom, AllEndAt, OneIsPrefix, OnlyAdds}
 use Rattle.campl_machine.proofs.Updates.{decides}
 use Rattle.campl_machine.proofs.Confluence.{one_end, prefix}
 
@@ -11,7 +11,7 @@ after Red zero a b c l e r = (l, c, subst (λ x. Red x l c) (sym e) r, refl)
 after Red (suc n) a b c l (m, x, s, run) r = (m, x, s, after Red n x b c l run r)
 
 module _ {C L : Type 0} (same : L → L → Bool) (tells : TellsApart same) (step : C → L → Option C) (start : C)
-    (diamond : (a : C) → Reaches (By step) start a → Diamond (By step) a) where
+    (diamond : DiamondsFrom step start) where
   -- what is reached from the start
   Reached : C → Type 0
   Reached = Reaches (By step) start
@@ -36,13 +36,12 @@ module _ {C L : Type 0} (same : L → L → Bool) (tells : TellsApart same) (ste
   stuck-stays (suc k) b s st (l, d, r, more) = absurd (st l d r)
 
   -- where one run gets stuck, no run is longer, and each that gets stuck ends there in as many steps
-  pub one-answer : (s : C) (n : ℕ) → Run (By step) n start s → Stuck (By step) s → (b : C) (m : ℕ) → Run (By step) m start b → (m ≤ n) × (Stuck (By step) b → (b ≡ s) × (m ≡ n))
+  pub one-answer : (s : C) (n : ℕ) → Run (By step) n start s → Stuck (By step) s → AllEndAt step start s n
   one-answer s n run st b m other =
       let e : (k : ℕ) × (n ≡ m + k) × Run (By step) k b s = one_end (By step) Reached kept (decides same tells) once meets m n start b s here st run other in
       (omega (arith, e.1), λ sb. let z : (e.0 ≡ 0) × (b ≡ s) = stuck-stays e.0 b s sb e.2 in (z.1, omega (arith, e.1, z.0)))
 
   -- of what two runs show, one is a prefix of the other
-  pub prefixes : {A : Type 0} (view : C → List A) → ((a : C) (l : L) (b : C) → Reaches (By step) start a → By step a l b → IsPrefixOf (view a) (view b)) →
-      (b c : C) (m n : ℕ) → Run (By step) m start b → Run (By step) n start c → IsPrefixOf (view b) (view c) ⊎ IsPrefixOf (view c) (view b)
+  pub prefixes : {A : Type 0} (shown : C → List A) → OnlyAdds step start shown → (b c : C) → Reaches (By step) start b → Reaches (By step) start c → OneIsPrefix (shown b) (shown c)
   unfolding Reached
-  prefixes view grows b c m n p q = prefix (By step) Reached kept (decides same tells) once meets view grows m n start b c here p q
+  prefixes shown adds b c (m, p) (n, q) = prefix (By step) Reached kept (decides same tells) once meets shown (λ a l k g r. adds a l k g r) m n start b c here p q

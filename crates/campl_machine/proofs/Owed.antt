@@ -163,7 +163,7 @@ module _ {M : Type 0} where
   at_x2 x y x2 y2 f nx ny ny2 = rw (apart x x2 nx, apart y x2 ny, apart y2 x2 ny2, same_end-refl x2) refl
 
   pub off : (x y x2 y2 : End) (f : End → List M) (e : End) → Off x y x2 y2 e → joined x y x2 y2 f e ≡ f e
-  off x y x2 y2 f e n = rw (apart x e n.a, apart y e n.b, apart y2 e n.d, apart x2 e n.c) refl
+  off x y x2 y2 f e n = rw (apart x e n.not_x, apart y e n.not_y, apart y2 e n.not_y2, apart x2 e n.not_x2) refl
 
   pub joined-joined : (x y x2 y2 u v u2 v2 : End) (f : End → List M) → Off x y x2 y2 u → Off x y x2 y2 v → Off x y x2 y2 u2 → Off x y x2 y2 v2 →
       joined x y x2 y2 (joined u v u2 v2 f) ≡ joined u v u2 v2 (joined x y x2 y2 f)
@@ -172,16 +172,16 @@ module _ {M : Type 0} where
       fun_ext (λ e. elim (reads M x y x2 y2 e) [
         | inl (w, q) ↦
             let oe : Off u v u2 v2 e = elim w [
-              | inl i ↦ record { a = λ k. ou.a (i ∙ sym k); b = λ k. ov.a (i ∙ sym k); c = λ k. ou2.a (i ∙ sym k); d = λ k. ov2.a (i ∙ sym k) }
-              | inr i ↦ record { a = λ k. ou.b (i ∙ sym k); b = λ k. ov.b (i ∙ sym k); c = λ k. ou2.b (i ∙ sym k); d = λ k. ov2.b (i ∙ sym k) }
+              | inl i ↦ record { not_x = λ k. ou.not_x (i ∙ sym k); not_y = λ k. ov.not_x (i ∙ sym k); not_x2 = λ k. ou2.not_x (i ∙ sym k); not_y2 = λ k. ov2.not_x (i ∙ sym k) }
+              | inr i ↦ record { not_x = λ k. ou.not_y (i ∙ sym k); not_y = λ k. ov.not_y (i ∙ sym k); not_x2 = λ k. ou2.not_y (i ∙ sym k); not_y2 = λ k. ov2.not_y (i ∙ sym k) }
             ] in
             q (joined u v u2 v2 f) ∙ sym (off u v u2 v2 (joined x y x2 y2 f) e oe ∙ q f)
         | inr (inl (i, nex, ney, q)) ↦
-            let oe : Off u v u2 v2 e = record { a = λ k. ou.d (i ∙ sym k); b = λ k. ov.d (i ∙ sym k); c = λ k. ou2.d (i ∙ sym k); d = λ k. ov2.d (i ∙ sym k) } in
-            cc (q (joined u v u2 v2 f), q f, off u v u2 v2 (joined x y x2 y2 f) e oe, off u v u2 v2 f x (record { a = ne x u ou.a; b = ne x v ov.a; c = ne x u2 ou2.a; d = ne x v2 ov2.a }), off u v u2 v2 f y2 (record { a = ne y2 u ou.d; b = ne y2 v ov.d; c = ne y2 u2 ou2.d; d = ne y2 v2 ov2.d }))
+            let oe : Off u v u2 v2 e = record { not_x = λ k. ou.not_y2 (i ∙ sym k); not_y = λ k. ov.not_y2 (i ∙ sym k); not_x2 = λ k. ou2.not_y2 (i ∙ sym k); not_y2 = λ k. ov2.not_y2 (i ∙ sym k) } in
+            cc (q (joined u v u2 v2 f), q f, off u v u2 v2 (joined x y x2 y2 f) e oe, off u v u2 v2 f x (record { not_x = ne x u ou.not_x; not_y = ne x v ov.not_x; not_x2 = ne x u2 ou2.not_x; not_y2 = ne x v2 ov2.not_x }), off u v u2 v2 f y2 (record { not_x = ne y2 u ou.not_y2; not_y = ne y2 v ov.not_y2; not_x2 = ne y2 u2 ou2.not_y2; not_y2 = ne y2 v2 ov2.not_y2 }))
         | inr (inr (inl (i, nex, ney, ney2, q))) ↦
-            let oe : Off u v u2 v2 e = record { a = λ k. ou.c (i ∙ sym k); b = λ k. ov.c (i ∙ sym k); c = λ k. ou2.c (i ∙ sym k); d = λ k. ov2.c (i ∙ sym k) } in
-            cc (q (joined u v u2 v2 f), q f, off u v u2 v2 (joined x y x2 y2 f) e oe, off u v u2 v2 f y (record { a = ne y u ou.b; b = ne y v ov.b; c = ne y u2 ou2.b; d = ne y v2 ov2.b }), off u v u2 v2 f x2 (record { a = ne x2 u ou.c; b = ne x2 v ov.c; c = ne x2 u2 ou2.c; d = ne x2 v2 ov2.c }))
+            let oe : Off u v u2 v2 e = record { not_x = λ k. ou.not_x2 (i ∙ sym k); not_y = λ k. ov.not_x2 (i ∙ sym k); not_x2 = λ k. ou2.not_x2 (i ∙ sym k); not_y2 = λ k. ov2.not_x2 (i ∙ sym k) } in
+            cc (q (joined u v u2 v2 f), q f, off u v u2 v2 (joined x y x2 y2 f) e oe, off u v u2 v2 f y (record { not_x = ne y u ou.not_y; not_y = ne y v ov.not_y; not_x2 = ne y u2 ou2.not_y; not_y2 = ne y v2 ov2.not_y }), off u v u2 v2 f x2 (record { not_x = ne x2 u ou.not_x2; not_y = ne x2 v ov.not_x2; not_x2 = ne x2 u2 ou2.not_x2; not_y2 = ne x2 v2 ov2.not_x2 }))
         | inr (inr (inr (nex, ney, nex2, ney2, q))) ↦ elim (reads M u v u2 v2 e) [
           | inl (w, r) ↦ cc (q (joined u v u2 v2 f), r f, r (joined x y x2 y2 f))
           | inr (inl (i, neu, nev, r)) ↦ cc (q (joined u v u2 v2 f), r f, r (joined x y x2 y2 f), off x y x2 y2 f u ou, off x y x2 y2 f v2 ov2)
@@ -194,30 +194,30 @@ module _ {M : Type 0} where
   pub joined-shared : (x y u y2 v v2 : End) (f : End → List M) → Six x y u y2 v v2 → joined u v y2 v2 (joined x y u y2 f) ≡ joined x y v2 y2 (joined u v x v2 f)
   unfolding Reads
   joined-shared x y u y2 v v2 f s =
-      let ou : Off x y v2 y2 u = record { a = s.xu; b = s.yu; c = ne u v2 s.uv2; d = ne u y2 s.uy2 } in
-      let ov : Off x y v2 y2 v = record { a = s.xv; b = s.yv; c = ne v v2 s.vv2; d = s.y2v } in
+      let ou : Off x y v2 y2 u = record { not_x = s.xu; not_y = s.yu; not_x2 = ne u v2 s.uv2; not_y2 = ne u y2 s.uy2 } in
+      let ov : Off x y v2 y2 v = record { not_x = s.xv; not_y = s.yv; not_x2 = ne v v2 s.vv2; not_y2 = s.y2v } in
       fun_ext (λ e. elim (reads M u v y2 v2 e) [
         | inl (w, q) ↦
             let oe : Off x y v2 y2 e = elim w [ inl i ↦ subst (Off x y v2 y2) i ou | inr i ↦ subst (Off x y v2 y2) i ov ] in
             q (joined x y u y2 f) ∙ sym (off x y v2 y2 (joined u v x v2 f) e oe ∙ at_gone u v x v2 f e w)
         | inr (inl (i, neu, nev, q)) ↦
             let left : joined x y u y2 f u ++ joined x y u y2 f v2 ≡ (f y ++ f u) ++ f v2 =
-            cc (at_x2 x y u y2 f s.xu s.yu (ne u y2 s.uy2), off x y u y2 f v2 (record { a = s.xv2; b = s.yv2; c = s.uv2; d = s.y2v2 })) in
+            cc (at_x2 x y u y2 f s.xu s.yu (ne u y2 s.uy2), off x y u y2 f v2 (record { not_x = s.xv2; not_y = s.yv2; not_x2 = s.uv2; not_y2 = s.y2v2 })) in
             let right : joined x y v2 y2 (joined u v x v2 f) v2 ≡ f y ++ (f u ++ f v2) =
-            cc (at_x2 x y v2 y2 (joined u v x v2 f) s.xv2 s.yv2 s.y2v2, off u v x v2 f y (record { a = ne y u s.yu; b = ne y v s.yv; c = s.xy; d = ne y v2 s.yv2 }), at_y2 u v x v2 f s.uv2 s.vv2) in
+            cc (at_x2 x y v2 y2 (joined u v x v2 f) s.xv2 s.yv2 s.y2v2, off u v x v2 f y (record { not_x = ne y u s.yu; not_y = ne y v s.yv; not_x2 = s.xy; not_y2 = ne y v2 s.yv2 }), at_y2 u v x v2 f s.uv2 s.vv2) in
             q (joined x y u y2 f) ∙ (left ∙ (append_assoc (f y) (f u) (f v2) ∙ (sym right ∙ ap (joined x y v2 y2 (joined u v x v2 f)) i)))
         | inr (inr (inl (i, neu, nev, nev2, q))) ↦
             let left : joined x y u y2 f v ++ joined x y u y2 f y2 ≡ f v ++ (f x ++ f y2) =
-            cc (off x y u y2 f v (record { a = s.xv; b = s.yv; c = s.uv; d = s.y2v }), at_y2 x y u y2 f s.xy2 s.yy2) in
+            cc (off x y u y2 f v (record { not_x = s.xv; not_y = s.yv; not_x2 = s.uv; not_y2 = s.y2v }), at_y2 x y u y2 f s.xy2 s.yy2) in
             let right : joined x y v2 y2 (joined u v x v2 f) y2 ≡ (f v ++ f x) ++ f y2 =
-            cc (at_y2 x y v2 y2 (joined u v x v2 f) s.xy2 s.yy2, at_x2 u v x v2 f (ne x u s.xu) (ne x v s.xv) (ne x v2 s.xv2), off u v x v2 f y2 (record { a = s.uy2; b = ne y2 v s.y2v; c = s.xy2; d = ne y2 v2 s.y2v2 })) in
+            cc (at_y2 x y v2 y2 (joined u v x v2 f) s.xy2 s.yy2, at_x2 u v x v2 f (ne x u s.xu) (ne x v s.xv) (ne x v2 s.xv2), off u v x v2 f y2 (record { not_x = s.uy2; not_y = ne y2 v s.y2v; not_x2 = s.xy2; not_y2 = ne y2 v2 s.y2v2 })) in
             q (joined x y u y2 f) ∙ (left ∙ (sym (append_assoc (f v) (f x) (f y2)) ∙ (sym right ∙ ap (joined x y v2 y2 (joined u v x v2 f)) i)))
         | inr (inr (inr (neu, nev, ney2, nev2, q))) ↦ elim (reads M x y u y2 e) [
           | inl (w, r) ↦ q (joined x y u y2 f) ∙ (r f ∙ sym (at_gone x y v2 y2 (joined u v x v2 f) e w))
           | inr (inl (i, nex, ney, r)) ↦ absurd (ney2 i)
           | inr (inr (inl (i, nex, ney, k, r))) ↦ absurd (neu i)
           | inr (inr (inr (nex, ney, k, l, r))) ↦
-              q (joined x y u y2 f) ∙ (r f ∙ sym (off x y v2 y2 (joined u v x v2 f) e (record { a = nex; b = ney; c = nev2; d = ney2 }) ∙ off u v x v2 f e (record { a = neu; b = nev; c = nex; d = nev2 })))
+              q (joined x y u y2 f) ∙ (r f ∙ sym (off x y v2 y2 (joined u v x v2 f) e (record { not_x = nex; not_y = ney; not_x2 = nev2; not_y2 = ney2 }) ∙ off u v x v2 f e (record { not_x = neu; not_y = nev; not_x2 = nex; not_y2 = nev2 })))
         ]
       ])
 
@@ -243,5 +243,5 @@ module _ {M : Type 0} where
       | inr (inr (inl (j, ny, nx, k, r))) ↦ absurd (ney2 j)
       | inr (inr (inr (ny, nx, k, l, r))) ↦ absurd (l i)
     ]
-    | inr (inr (inr (nex, ney, nex2, ney2, q))) ↦ q f ∙ sym (off y x y2 x2 f e (record { a = ney; b = nex; c = ney2; d = nex2 }))
+    | inr (inr (inr (nex, ney, nex2, ney2, q))) ↦ q f ∙ sym (off y x y2 x2 f e (record { not_x = ney; not_y = nex; not_x2 = ney2; not_y2 = nex2 }))
   ])

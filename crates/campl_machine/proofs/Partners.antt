@@ -82,7 +82,7 @@ identity f x y x2 y2 m px py xy x2y = record { back = back; other = other }
       | inr (inr (inr o)) ↦
           let p : f a ≡ Some b = sym (wired-off x y x2 y2 f a o) ∙ h in
           let q : f b ≡ Some a = m.back a b p in
-          wired-off x y x2 y2 f b (record { a = λ i. o.c (cc (q, px, i)); b = λ i. o.d (cc (q, py, i)); c = λ i. o.a (cc (q, m.back x x2 px, i)); d = λ i. o.b (cc (q, m.back y y2 py, i)) }) ∙ q
+          wired-off x y x2 y2 f b (record { not_x = λ i. o.not_x2 (cc (q, px, i)); not_y = λ i. o.not_y2 (cc (q, py, i)); not_x2 = λ i. o.not_x (cc (q, m.back x x2 px, i)); not_y2 = λ i. o.not_y (cc (q, m.back y y2 py, i)) }) ∙ q
     ]
 
     other : (a : End) → wired x y x2 y2 f a ≢ Some a

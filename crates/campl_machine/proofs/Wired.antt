@@ -25,7 +25,7 @@ module _ (x y x2 y2 : End) where
   wired-y2 f nx ny n2 = rw (apart x y2 nx, apart y y2 ny, apart x2 y2 n2, same_end-refl y2) refl
 
   pub wired-off : (f : End → Option End) (e : End) → Off x y x2 y2 e → wired f e ≡ f e
-  wired-off f e n = rw (apart x e n.a, apart y e n.b, apart x2 e n.c, apart y2 e n.d) refl
+  wired-off f e n = rw (apart x e n.not_x, apart y e n.not_y, apart x2 e n.not_x2, apart y2 e n.not_y2) refl
 
   unfoldable pub Sits : End → Type 0
   Sits e = ((x ≡ e) ⊎ (y ≡ e)) ⊎ (x2 ≡ e) ⊎ (y2 ≡ e) ⊎ Off x y x2 y2 e
@@ -40,7 +40,7 @@ module _ (x y x2 y2 : End) where
         | inl k ↦ inr (inl (same_end-is x2 e k))
         | inr k ↦ elim (split (same_end y2 e)) [
           | inl l ↦ inr (inr (inl (same_end-is y2 e l)))
-          | inr l ↦ inr (inr (inr (record { a = unlike x e i; b = unlike y e j; c = unlike x2 e k; d = unlike y2 e l })))
+          | inr l ↦ inr (inr (inr (record { not_x = unlike x e i; not_y = unlike y e j; not_x2 = unlike x2 e k; not_y2 = unlike y2 e l })))
         ]
       ]
     ]
@@ -49,8 +49,8 @@ module _ (x y x2 y2 : End) where
 pub wired-shared : (x y u y2 v v2 : End) (f : End → Option End) → Six x y u y2 v v2 → wired u v y2 v2 (wired x y u y2 f) ≡ wired x y v2 y2 (wired u v x v2 f)
 unfolding Sits
 wired-shared x y u y2 v v2 f s =
-    let ou : Off x y v2 y2 u = record { a = s.xu; b = s.yu; c = ne u v2 s.uv2; d = ne u y2 s.uy2 } in
-    let ov : Off x y v2 y2 v = record { a = s.xv; b = s.yv; c = ne v v2 s.vv2; d = s.y2v } in
+    let ou : Off x y v2 y2 u = record { not_x = s.xu; not_y = s.yu; not_x2 = ne u v2 s.uv2; not_y2 = ne u y2 s.uy2 } in
+    let ov : Off x y v2 y2 v = record { not_x = s.xv; not_y = s.yv; not_x2 = ne v v2 s.vv2; not_y2 = s.y2v } in
     fun_ext (λ e. elim (sits u v y2 v2 e) [
       | inl w ↦
           let oe : Off x y v2 y2 e = elim w [ inl i ↦ subst (Off x y v2 y2) i ou | inr i ↦ subst (Off x y v2 y2) i ov ] in
@@ -62,9 +62,9 @@ wired-shared x y u y2 v v2 f s =
       | inr (inr (inr o)) ↦ elim (sits x y v2 y2 e) [
         | inl w ↦
             wired-off u v y2 v2 (wired x y u y2 f) e o ∙ (wired-gone x y u y2 f e w ∙ sym (wired-gone x y v2 y2 (wired u v x v2 f) e w))
-        | inr (inl i) ↦ absurd (o.d i)
-        | inr (inr (inl i)) ↦ absurd (o.c i)
-        | inr (inr (inr q)) ↦ wired-off u v y2 v2 (wired x y u y2 f) e o ∙ (wired-off x y u y2 f e (record { a = q.a; b = q.b; c = o.a; d = o.c }) ∙ sym (wired-off x y v2 y2 (wired u v x v2 f) e q ∙ wired-off u v x v2 f e (record { a = o.a; b = o.b; c = q.a; d = o.d })))
+        | inr (inl i) ↦ absurd (o.not_y2 i)
+        | inr (inr (inl i)) ↦ absurd (o.not_x2 i)
+        | inr (inr (inr q)) ↦ wired-off u v y2 v2 (wired x y u y2 f) e o ∙ (wired-off x y u y2 f e (record { not_x = q.not_x; not_y = q.not_y; not_x2 = o.not_x; not_y2 = o.not_x2 }) ∙ sym (wired-off x y v2 y2 (wired u v x v2 f) e q ∙ wired-off u v x v2 f e (record { not_x = o.not_x; not_y = o.not_y; not_x2 = q.not_x; not_y2 = o.not_y2 })))
       ]
     ])
 
@@ -92,5 +92,5 @@ wired-turned x y x2 y2 f n = fun_ext (λ e. elim (sits x y x2 y2 e) [
           subst (λ t. wired x y x2 y2 f t ≡ wired y x y2 x2 f t) i (wired-y2 x y x2 y2 f xy2 yy2 n ∙ sym (wired-x2 y x y2 x2 f yy2 xy2))
     ]
   ]
-  | inr (inr (inr o)) ↦ wired-off x y x2 y2 f e o ∙ sym (wired-off y x y2 x2 f e (record { a = o.b; b = o.a; c = o.d; d = o.c }))
+  | inr (inr (inr o)) ↦ wired-off x y x2 y2 f e o ∙ sym (wired-off y x y2 x2 f e (record { not_x = o.not_y; not_y = o.not_x; not_x2 = o.not_y2; not_y2 = o.not_x2 }))
 ])
