@@ -9,10 +9,12 @@ use Rattle.campl_machine.proofs.Ends.{ne, Off, Six}
 use Rattle.campl_machine.proofs.Owed.{sent-sent, taken-sent, taken-taken, joined-sent, joined-taken, joined-taken-x, joined-joined, joined-shared, joined-turned}
 use Rattle.campl_machine.proofs.Wired.{wired-shared, wired-turned}
 
+-- lists of nodes that have none in common are updated in either order
 nodes-swap : {S : Type 0} → (d1 d2 : List (Who × Option S)) (f : Who → Option S) → ((w : Who) → Lies d1 w → Lies d2 w → ⊥) → update same_who d1 (update same_who d2 f) ≡ update same_who d2 (update same_who d1 f)
 nodes-swap = swap_updates same_who same_who-is same_who-refl
 
 module _ {S M : Type 0} where
+  -- two moves
   pub moves-moves : (c : Config S M) (p q : Who) (m n : Move S M) → Independent c p (Moves m) q (Moves n) → moved (moved c p m) q n ≡ moved (moved c q n) p m
   moves-moves c p q m n s =
       let a : (moved (moved c p m) q n).nodes ≡ (moved (moved c q n) p m).nodes = nodes-swap ((q, n.next) ∷ alive n.children) ((p, m.next) ∷ alive m.children) c.nodes (λ w i j. s.nodes w j i) in
@@ -20,6 +22,7 @@ module _ {S M : Type 0} where
       let o : (moved (moved c p m) q n).owed ≡ (moved (moved c q n) p m).owed = sent-sent n.send m.send c.owed (λ e v w i j. s.uses e (w, j) (v, i)) in
       λ i. record { nodes = a i; partner = b i; owed = o i }
 
+  -- a move, and a receipt of what is owed already
   pub moves-looks : (c : Config S M) (p q : Who) (m : Move S M) (t : Bool) (z : End) (k : S) (v : M) (rest : List M) → c.owed z ≡ v ∷ rest → ((w : Who) → Lies (nodes_born p (Moves m)) w → (q ≡ w) ⊎ ⊥ → ⊥) →
       looked (moved c p m) q t z k ≡ moved (looked c q t z k) p m
   moves-looks c p q m t z k v rest is s =
@@ -27,6 +30,7 @@ module _ {S M : Type 0} where
       let o : (looked (moved c p m) q t z k).owed ≡ (moved (looked c q t z k) p m).owed = taken-sent m.send t z c.owed v rest is in
       λ i. record { nodes = a i; partner = update same_end (both_ways m.channels) c.partner; owed = o i }
 
+  -- a move, and an identity of old ends
   pub moves-links : (c : Config S M) (p q : Who) (m : Move S M) (x y x2 y2 : End) → Paired c → c.partner x ≡ Some x2 → c.partner y ≡ Some y2 → Independent c p (Moves m) q (Links x y) →
       linked (moved c p m) q x y x2 y2 ≡ moved (linked c q x y x2 y2) p m
   moves-links c p q m x y x2 y2 pr px py s =
@@ -43,6 +47,7 @@ module _ {S M : Type 0} where
       let o : (linked (moved c p m) q x y x2 y2).owed ≡ (moved (linked c q x y x2 y2) p m).owed = joined-sent m.send x y x2 y2 c.owed (λ v i. s.uses x (v, i) (inl refl)) (λ v i. s.uses y (v, i) (inr refl)) in
       λ i. record { nodes = a i; partner = b i; owed = o i }
 
+  -- receipts of what two ends owe
   pub looks-looks : (c : Config S M) (p q : Who) (t u : Bool) (y z : End) (k l : S) → y ≢ z → p ≢ q → looked (looked c p t y k) q u z l ≡ looked (looked c q u z l) p t y k
   looks-looks c p q t u y z k l n pq =
       let a : (looked (looked c p t y k) q u z l).nodes ≡ (looked (looked c q u z l) p t y k).nodes = nodes-swap ((q, Some l) ∷ []) ((p, Some k) ∷ []) c.nodes (λ w i j. elim i [ inl r ↦ elim j [ inl v ↦ pq (v ∙ sym r) | inr v ↦ v ] | inr r ↦ r ]) in
@@ -75,6 +80,7 @@ module _ {S M : Type 0} where
       let o : (looked (linked c q u v u2 v2) p t z s).owed ≡ (linked (looked c p t z s) q u v u2 v2).owed = sym (joined-taken t z u v u2 v2 c.owed zu zv zu2 zv2) in
       λ i. record { nodes = a i; partner = update same_end (rewired u v u2 v2) c.partner; owed = o i }
 
+  -- two identities that share the channel of x and u
   pub links-shared : (c : Config S M) (p q : Who) (x y u y2 v v2 : End) → p ≢ q → Six x y u y2 v v2 → linked (linked c p x y u y2) q u v y2 v2 ≡ linked (linked c q u v x v2) p x y v2 y2
   links-shared c p q x y u y2 v v2 pq s =
       let a : (linked (linked c p x y u y2) q u v y2 v2).nodes ≡ (linked (linked c q u v x v2) p x y v2 y2).nodes = nodes-swap ((q, None) ∷ []) ((p, None) ∷ []) c.nodes (λ w i j. elim i [ inl r ↦ elim j [ inl k ↦ pq (k ∙ sym r) | inr k ↦ k ] | inr r ↦ r ]) in
@@ -82,6 +88,7 @@ module _ {S M : Type 0} where
       let o : (linked (linked c p x y u y2) q u v y2 v2).owed ≡ (linked (linked c q u v x v2) p x y v2 y2).owed = joined-shared x y u y2 v v2 c.owed s in
       λ i. record { nodes = a i; partner = b i; owed = o i }
 
+  -- two identities that share none
   pub links-apart : (c : Config S M) (p q : Who) (x y x2 y2 u v u2 v2 : End) → p ≢ q → Off x y x2 y2 u → Off x y x2 y2 v → Off x y x2 y2 u2 → Off x y x2 y2 v2 →
       linked (linked c p x y x2 y2) q u v u2 v2 ≡ linked (linked c q u v u2 v2) p x y x2 y2
   links-apart c p q x y x2 y2 u v u2 v2 pq ou ov ou2 ov2 =

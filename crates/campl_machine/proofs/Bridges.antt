@@ -8,10 +8,12 @@ pub record Bridge {E N : Type 0} (g : Graph E N) (e f : E) (u v : N) (S : N → 
   pub far : S v
   pub kept : (x y : E) (a b : N) → Leads g x y a b → x ≢ e → x ≢ f → S a → S b
 
+-- each edge is a bridge: without it nothing leads from one of its nodes to the other
 abbrev pub EachBridge : {E N : Type 0} → Graph E N → Type 1
 EachBridge {E} {N} g = (e f : E) (u v : N) → Leads g e f u v → (S : N → Type 0) × Bridge g e f u v S
 
 module _ {E N : Type 0} (g : Graph E N) where
+  -- an edge leads both ways
   pub turned : (e f : E) (u v : N) → Leads g e f u v → Leads g f e v u
   turned e f u v l = record { there = l.back; back = l.there; from = l.to; to = l.from }
 
@@ -29,12 +31,14 @@ module _ {E N : Type 0} (g : Graph E N) where
   stays e f u v S le br (x ∷ es) a b (y, c, l, w) av s =
       stays e f u v S le br es c b w av.2 (br.kept x y a c l av.0 (λ i. av.1 (cc (l.there, le.back, i))) s)
 
+  -- where each edge is a bridge, no closed walk uses each edge once
   pub no_cycle : EachBridge g → NoCycle g
   no_cycle each e es u (f, v, l, w) once =
       let br : (S : N → Type 0) × Bridge g e f u v S = each e f u v l in
       br.1.near (stays e f u v br.0 l br.1 es v u w once.0 br.1.far)
 
   module _ (same : (x y : E) → (x ≡ y) ⊎ (x ≢ y)) where
+    -- e is x's partner or not
     same_partner : (x e : E) → (g.partner x ≡ Some e) ⊎ (g.partner x ≢ Some e)
     same_partner x e = go (g.partner x) refl
       where
@@ -64,6 +68,7 @@ module _ {E N : Type 0} (g : Graph E N) where
       ]
     ]
 
+    -- a walk can be cut to one that uses each edge once
     cut_walk : (es : List E) (a b : N) → Walk g es a b → Cut es a b
     unfolding Cut
     cut_walk [] a b w = ([], w, tt, λ e v. v)
@@ -78,6 +83,7 @@ module _ {E N : Type 0} (g : Graph E N) where
     Reached : E → N → N → Type 0
     Reached e v w = (es : List E) × Walk g es v w × Avoids g e es
 
+    -- one more edge at the end of a walk
     one_more : (x y : E) (a b : N) → Leads g x y a b → (e : E) → x ≢ e → g.partner x ≢ Some e → (es : List E) (v : N) → Walk g es v a → Avoids g e es → Reached e v b
     unfolding Reached
     one_more x y a b l e ne np [] v w av = (x ∷ [], (y, b, subst (λ q. Leads g x y q b) (sym w) l, refl), (ne, np, tt))
@@ -85,6 +91,7 @@ module _ {E N : Type 0} (g : Graph E N) where
         let q : (es : List E) × Walk g es m b × Avoids g e es = one_more x y a b l e ne np es m w av.2 in
         (t ∷ q.0, (r, m, k, q.1), (av.0, av.1, q.2))
 
+    -- where there is no cycle, each edge is a bridge
     pub each_bridge : NoCycle g → EachBridge g
     unfolding Reached Cut
     each_bridge acyclic e f u v l = (

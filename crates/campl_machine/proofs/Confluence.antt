@@ -3,6 +3,7 @@ use Rattle.std.proofs.Common.{◌≡◌, ◌≢◌, ℕ, zero, suc, ◌+◌, Lis
 use Rattle.campl_machine.specs.Runs.{Run, Reaches, Stuck, IsPrefixOf}
 
 module _ {C L : Type 0} (Red : C → L → C → Type 0) where
+  -- a run and then another
   join_runs : (n : ℕ) (a b c : C) → Run Red n a b → Reaches Red b c → Reaches Red a c
   join_runs zero a b c e r = subst (λ x. Reaches Red x c) (sym e) r
   join_runs (suc n) a b c (l, x, r, run) q =
@@ -70,6 +71,7 @@ module _ {C L : Type 0} (Red : C → L → C → Type 0) (Good : C → Type 0)
 
   module _ {A : Type 0} (view : C → List A)
       (grows : (a : C) (l : L) (b : C) → Good a → Red a l b → IsPrefixOf (view a) (view b)) where
+    -- what a run shows is only added to
     run_grows : (n : ℕ) (a b : C) → Good a → Run Red n a b → IsPrefixOf (view a) (view b)
     run_grows zero a b g e = ([], append-nil (view a) ∙ ap view e)
     run_grows (suc n) a b g (l, x, r, run) =

@@ -8,10 +8,12 @@ use Rattle.campl_machine.specs.Progress.{Within, Points}
 
 -- a node that is taken out of the list
 module _ {E N : Type 0} (g : Graph E N) (same_node : (x y : N) → (x ≡ y) ⊎ (x ≢ y)) (point : N → Option E) where
+  -- the list without the first x
   without : List N → N → List N
   without [] x = []
   without (y ∷ ys) x = elim (same_node y x) [ inl e ↦ ys | inr ne ↦ y ∷ without ys x ]
 
+  -- it is one shorter where x is in it
   without_shorter : (ys : List N) (x : N) → Within ys x → suc (length (without ys x)) ≡ length ys
   unfolding without
   without_shorter [] x w = absurd w
@@ -20,6 +22,7 @@ module _ {E N : Type 0} (g : Graph E N) (same_node : (x y : N) → (x ≡ y) ⊎
     | inr ne ↦ elim w [ inl e ↦ absurd (ne (sym e)) | inr v ↦ ap suc (without_shorter ys x v) ]
   ]
 
+  -- and has the others
   without_keeps : (ys : List N) (x z : N) → z ≢ x → Within ys z → Within (without ys x) z
   unfolding without
   without_keeps [] x z ne w = w
@@ -63,15 +66,18 @@ module _ {E N : Type 0} (g : Graph E N) (same_node : (x y : N) → (x ≡ y) ⊎
 
 -- among finitely many nodes one is found that points at nothing, or all point on
 module _ {E N : Type 0} (g : Graph E N) (same_node : (x y : N) → (x ≡ y) ⊎ (x ≢ y)) (there : N → Bool) (point : N → Option E) where
+  -- a node that is there and points at nothing
   unfoldable pub Finds : Type 0
   Finds = (u : N) × (there u ≡ true) × (point u ≡ None)
 
+  -- a node points at nothing, or along an edge if it is there
   stops : (o : Option E) (b : Bool) (u : N) → there u ≡ b → point u ≡ o → Finds ⊎ (there u ≡ true → (e : E) × (point u ≡ Some e))
   unfolding Finds
   stops None true u tu pu = inl (u, tu, pu)
   stops None false u tu pu = inr (λ h. absurd (cc (tu, h)))
   stops (Some e) b u tu pu = inr (λ h. (e, pu))
 
+  -- some listed node points at nothing, or all that are there point
   look : (ys : List N) → Finds ⊎ ((u : N) → Within ys u → there u ≡ true → (e : E) × (point u ≡ Some e))
   look [] = inr (λ u w. absurd w)
   look (y ∷ ys) = elim (stops (point y) (there y) y refl refl) [
@@ -82,6 +88,7 @@ module _ {E N : Type 0} (g : Graph E N) (same_node : (x y : N) → (x ≡ y) ⊎
     ]
   ]
 
+  -- progress, where each edge is a bridge
   pub progress : (ys : List N) → Points g ys there point → EachBridge g → (u : N) → there u ≡ true → Finds
   progress ys points each u tu = elim (look ys) [
     | inl f ↦ f

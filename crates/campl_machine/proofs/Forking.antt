@@ -17,14 +17,17 @@ module _ {E N : Type 0} (same : E → E → Bool) (tells : TellsApart same) (sam
   middle : Graph E N
   middle = record { partner = h.partner; at = λ e. if same e n2 then None else if same e l2 then None else lower (h.at e) }
 
+  -- the child's ends stand at the message
   lower-child : lower (Some child) ≡ Some message
   unfolding lower
   lower-child = rw (nodes.own child) refl
 
+  -- and the others where they stood
   lower-other : (w : N) → w ≢ child → lower (Some w) ≡ Some w
   unfolding lower
   lower-other w n = rw (differ same_node nodes.is w child n) refl
 
+  -- so it is for halves of other channels
   middle-at : (e : E) → e ≢ n2 → e ≢ l2 → middle.at e ≡ lower (h.at e)
   unfolding middle
   middle-at e n l = rw (differ same tells.is e n2 n, differ same tells.is e l2 l) refl
@@ -33,6 +36,7 @@ module _ {E N : Type 0} (same : E → E → Bool) (tells : TellsApart same) (sam
   Stood : E → N → Type 0
   Stood e u = (e ≢ n2) × (e ≢ l2) × ((w : N) × (h.at e ≡ Some w) × (((w ≡ child) × (u ≡ message)) ⊎ ((w ≢ child) × (u ≡ w))))
 
+  -- and for no others
   stood : (e : E) (u : N) → middle.at e ≡ Some u → Stood e u
   unfolding Stood middle lower
   stood e u is = elim (split (same e n2)) [
@@ -120,5 +124,6 @@ module _ {E N : Type 0} (same : E → E → Bool) (tells : TellsApart same) (sam
         | inr n ↦ (u, middle-at e en el ∙ (ap lower is ∙ lower-other u n), inl (n, refl))
       ]
 
+  -- so a fork makes no cycle
   pub fork-forest : NoCycle g → NoCycle h
   fork-forest forest = splitting same tells middle h l2 n2 message child second (splitting same tells g middle n1 l1 p message first forest)

@@ -16,9 +16,11 @@ module _ {N : Type 0} where
       (back : (e f : End) → partner e ≡ Some f → partner f ≡ Some e) (px : partner x ≡ Some x2) (py : partner y ≡ Some y2) (xy : x ≢ y) (x2y : x2 ≢ y) (xx2 : x ≢ x2) (yy2 : y ≢ y2)
       (sx : stand x ≡ Some P) (sy : stand y ≡ Some P)
       (same : (e : End) → e ≢ x → e ≢ y → stand2 e ≡ stand e) where
+    -- the graph before
     unfoldable pub before : Graph End N
     before = record { partner = partner; at = stand }
 
+    -- the graph after
     unfoldable pub after : Graph End N
     after = record { partner = wired x y x2 y2 partner; at = stand2 }
 
@@ -32,6 +34,7 @@ module _ {N : Type 0} where
     Kinds : End → End → Type 0
     Kinds e f = ((e ≡ x2) × (f ≡ y2)) ⊎ ((e ≡ y2) × (f ≡ x2)) ⊎ (Off x y x2 y2 e × Off x y x2 y2 f × (partner e ≡ Some f))
 
+    -- it is the new one or an old one
     kinds : (e f : End) → wired x y x2 y2 partner e ≡ Some f → Kinds e f
     unfolding Kinds Sits
     kinds e f is = elim (sits x y x2 y2 e) [
@@ -52,6 +55,7 @@ module _ {N : Type 0} where
           ))
     ]
 
+    -- x2's new edge was y's
     old_name : End → End
     old_name e = if same_end x2 e then y else e
 
@@ -64,6 +68,7 @@ module _ {N : Type 0} where
     old_name-off e n = elim (split (same_end x2 e)) [ inl i ↦ absurd (n (same_end-is x2 e i)) | inr i ↦ rw i refl ]
 
     module _ (A : N) (sa : stand x2 ≡ Some A) where
+      -- each edge of the new graph is one of the old graph
       old-edge : (e f : End) (u v : N) → Leads after e f u v → (a : N) × (b : N) × Leads before (old_name e) (old_name f) a b × Becomes A P a u × Becomes A P b v
       unfolding after before Kinds
       old-edge e f u v l = elim (kinds e f l.there) [
@@ -87,9 +92,11 @@ module _ {N : Type 0} where
       not-gone : (e f : End) → wired x y x2 y2 partner e ≡ Some f → (x ≢ e) × (y ≢ e)
       not-gone e f is = ((λ i. let n : wired x y x2 y2 partner e ≡ None = wired-gone x y x2 y2 partner e (inl i) in cc (n, is)), (λ i. let n : wired x y x2 y2 partner e ≡ None = wired-gone x y x2 y2 partner e (inr i) in cc (n, is)))
 
+      -- the two cases of `old_name`
       old_name-is : (e : End) → ((x2 ≡ e) × (old_name e ≡ y)) ⊎ ((x2 ≢ e) × (old_name e ≡ e))
       old_name-is e = elim (same-end x2 e) [ inl i ↦ inl (i, ap old_name (sym i) ∙ old_name-x2) | inr n ↦ inr (n, old_name-off e n) ]
 
+      -- an identity contracts the edge of x and x2
       contracts : Contracts before after old_name x2 x A P
       unfolding after before
       contracts = record {
@@ -111,6 +118,7 @@ module _ {N : Type 0} where
         ];
       }
 
+    -- x2 stands at a node or nowhere
     none-or : (o : Option N) → (o ≡ None) ⊎ ((A : N) × (o ≡ Some A))
     none-or None = inl refl
     none-or (Some A) = inr (A, refl)
@@ -127,6 +135,7 @@ module _ {N : Type 0} where
       ]) each
     ]
 
+  -- the same of graphs with no cycle
   pub identity-forest : (g h : Graph End N) (p : N) (x y x2 y2 : End) → Mutual g.partner → Identity g h p x y x2 y2 → NoCycle g → NoCycle h
   unfolding before after
   identity-forest g h p x y x2 y2 m s forest =

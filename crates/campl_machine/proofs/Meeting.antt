@@ -17,6 +17,7 @@ module _ {S M : Type 0} where
   unfoldable pub Meets : Config S M → Config S M → Who → Act S M → Who → Act S M → Type 0
   Meets b d p A q B = (e : Config S M) × Does b q B e × Does d p A e
 
+  -- the two steps named the other way round
   turn : (b d : Config S M) (p q : Who) (A B : Act S M) → Meets d b q B p A → Meets b d p A q B
   unfolding Meets
   turn b d p q A B m = (m.0, m.2, m.1)
@@ -29,6 +30,7 @@ module _ {S M : Type 0} where
     pub vv2 : v ≢ v2
     pub u2v2 : u2 ≢ v2
 
+  -- they are all different
   four : (c : Config S M) (u v u2 v2 : End) → Paired c → c.partner u ≡ Some u2 → c.partner v ≡ Some v2 → u ≢ v → u2 ≢ v → Four c u v u2 v2
   four c u v u2 v2 pr pu pv uv u2v = record {
     uu2 = λ i. pr.other u (cc (pu, i));
@@ -78,10 +80,12 @@ module _ {S M : Type 0} where
             (e, subst (λ y. Does y q (Links u v) e) (sym eb) before, subst (λ y. Does y p (Looks t x k) e) (sym ed) after)
       ]
 
+  -- the second step's identity read from its other side
   turn-links : (b d : Config S M) (p q : Who) (A : Act S M) (u v : End) → Paired b → Meets b d p A q (Links u v) → Meets b d p A q (Links v u)
   unfolding Meets
   turn-links b d p q A u v pr m = (m.0, turned b q u v m.0 pr m.1, m.2)
 
+  -- a receipt by p and an identity of q
   meet-looks-links : (c : Config S M) (p q : Who) (t : Bool) (x u v : End) (k : M → Option S) (b d : Config S M) → Paired c → Paired b → p ≢ q → x ≢ u → x ≢ v →
       Does c p (Looks t x k) b → Does c q (Links u v) d → Meets b d p (Looks t x k) q (Links u v)
   meet-looks-links c p q t x u v k b d pr prb pq xu xv db dd = elim (same-some (c.partner x) v) [
@@ -127,10 +131,12 @@ module _ {S M : Type 0} where
       (v2, y2, wired-x2 u v x v2 c.partner (ne x u six.xu) (ne x v six.xv), wired-off u v x v2 c.partner y (record { not_x = ne y u six.yu; not_y = ne y v six.yv; not_x2 = six.xy; not_y2 = ne y v2 six.yv2 }) ∙ py, xy, ne y v2 yv2, links-shared c p q x y u y2 v v2 pq six) in
       (e, subst (λ k. Does k q (Links u v) e) (sym eb2) before, subst (λ k. Does k p (Links x y) e) (sym ed2) after)
 
+  -- the first step's identity read from its other side
   turn-links-first : (b d : Config S M) (p q : Who) (B : Act S M) (x y : End) → Paired d → Meets b d p (Links x y) q B → Meets b d p (Links y x) q B
   unfolding Meets
   turn-links-first b d p q B x y pr m = (m.0, m.1, turned d p x y m.0 pr m.2)
 
+  -- two identities
   meet-links : (c : Config S M) (p q : Who) (x y u v : End) (b d : Config S M) → Paired c → Paired b → Paired d → p ≢ q → x ≢ u → x ≢ v → y ≢ u → y ≢ v → NotBoth {S = S} {M = M} c (Links x y) (Links u v) →
       Does c p (Links x y) b → Does c q (Links u v) d → Meets b d p (Links x y) q (Links u v)
   unfolding Meets
@@ -169,9 +175,11 @@ module _ {S M : Type 0} where
     ]
   ]
 
+  -- an end that has a partner keeps it where others are born
   no-births : (c : Config S M) (m : Move S M) (e f : End) → ((x : End) → Lies (both_ways m.channels) x → c.partner x ≡ None) → c.partner e ≡ Some f → update same_end (both_ways m.channels) c.partner e ≡ Some f
   no-births c m e f fresh is = elsewhere same_end same_end-is same_end-refl (both_ways m.channels) c.partner e (λ l. let n : c.partner e ≡ None = fresh e l in cc (n, is)) ∙ is
 
+  -- a move and a receipt
   meet-moves-looks : (c : Config S M) (p q : Who) (m : Move S M) (t : Bool) (x : End) (k : M → Option S) (b d : Config S M) → Independent c p (Moves m) q (Looks t x k) →
       Does c p (Moves m) b → Does c q (Looks t x k) d → Meets b d p (Moves m) q (Looks t x k)
   unfolding Meets
@@ -182,6 +190,7 @@ module _ {S M : Type 0} where
       let after : Does (looked c q t z l) p (Moves m) e = moves-looks c p q m t z l v rest is s.nodes in
       (e, subst (λ y. Does y q (Looks t x k) e) (sym eb) before, subst (λ y. Does y p (Moves m) e) (sym ed) after)
 
+  -- a move and an identity
   meet-moves-links : (c : Config S M) (p q : Who) (m : Move S M) (x y : End) (b d : Config S M) → Paired c → Independent c p (Moves m) q (Links x y) →
       Does c p (Moves m) b → Does c q (Links x y) d → Meets b d p (Moves m) q (Links x y)
   unfolding Meets
@@ -191,6 +200,7 @@ module _ {S M : Type 0} where
       let after : Does (linked c q x y x2 y2) p (Moves m) e = moves-links c p q m x y x2 y2 pr px py s in
       (e, subst (λ k. Does k q (Links x y) e) (sym eb) before, subst (λ k. Does k p (Moves m) e) (sym ed) after)
 
+  -- independence goes both ways
   back-independent : (c : Config S M) (p q : Who) (A B : Act S M) → Independent c p A q B → Independent c q B p A
   back-independent c p q A B s = record { nodes = λ w i j. s.nodes w j i; ends = λ e i j. s.ends e j i; uses = λ e i j. s.uses e j i; fresh_a = s.fresh_b; fresh_b = s.fresh_a }
 
@@ -198,6 +208,7 @@ module _ {S M : Type 0} where
   looks-paired : (c : Config S M) (p : Who) (t : Bool) (x : End) (k : M → Option S) (b : Config S M) → Paired c → Does c p (Looks t x k) b → Paired b
   looks-paired c p t x k b pr db = paired-kept c p (Looks t x k) b pr tt (λ e l. absurd l) db
 
+  -- and so does an identity
   links-paired : (c : Config S M) (p : Who) (x y : End) (b : Config S M) → Paired c → Does c p (Links x y) b → Paired b
   links-paired c p x y b pr db = paired-kept c p (Links x y) b pr tt (λ e l. absurd l) db
 
@@ -232,6 +243,7 @@ module _ {S M : Type 0} where
   meet c p q (Looks t x k) Breaks b d pr pq s nb db dd = absurd dd
   meet c p q (Links x y) Breaks b d pr pq s nb db dd = absurd dd
 
+  -- the same of the steps that are computed
   steps : (b d : Config S M) (p q : Who) (A B : Act S M) → Meets b d p A q B → (e : Config S M) × (performs b q B ≡ Some e) × (performs d p A ≡ Some e)
   unfolding Meets
   steps b d p q A B (e, be, de) = (e, of_does b q B e be, of_does d p A e de)

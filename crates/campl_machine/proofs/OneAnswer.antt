@@ -16,21 +16,26 @@ module _ {C L : Type 0} (same : L → L → Bool) (tells : TellsApart same) (ste
   Reached : C → Type 0
   Reached = Reaches (By step) start
 
+  -- a reduction of a reached state reaches a state
   kept : (a : C) (l : L) (b : C) → Reached a → By step a l b → Reached b
   unfolding Reached
   kept a l b (n, run) r = (suc n, after (By step) n start a b l run r)
 
+  -- a reduction leads to one state
   once : (a : C) (l : L) (b c : C) → Reached a → By step a l b → By step a l c → b ≡ c
   once a l b c g r s = cc (sym r ∙ s)
 
+  -- the diamond of reached states
   meets : (a : C) (l m : L) (b c : C) → Reached a → l ≢ m → By step a l b → By step a m c → (d : C) × By step b m d × By step c l d
   unfolding Reached
   meets a l m b c g n r s = diamond a g l m b c n r s
 
+  -- the start is reached
   here : Reached start
   unfolding Reached
   here = (0, refl)
 
+  -- a run from where nothing can go on has no reduction
   stuck-stays : (k : ℕ) (b s : C) → Stuck (By step) b → Run (By step) k b s → (k ≡ 0) × (b ≡ s)
   stuck-stays zero b s st e = (refl, e)
   stuck-stays (suc k) b s st (l, d, r, more) = absurd (st l d r)

@@ -15,6 +15,7 @@ Reads M x y x2 y2 e =
     ⊎ ((x2 ≡ e) × (x ≢ e) × (y ≢ e) × (y2 ≢ e) × ((f : End → List M) → joined x y x2 y2 f e ≡ f y ++ f x2))
     ⊎ ((x ≢ e) × (y ≢ e) × (x2 ≢ e) × (y2 ≢ e) × ((f : End → List M) → joined x y x2 y2 f e ≡ f e))
 
+-- each end is at one of them
 reads : (M : Type 0) (x y x2 y2 e : End) → Reads M x y x2 y2 e
 unfolding Reads
 reads M x y x2 y2 e = elim (split (same_end x e)) [
@@ -32,6 +33,7 @@ reads M x y x2 y2 e = elim (split (same_end x e)) [
 ]
 
 module _ {M : Type 0} where
+  -- two sends on different ends
   pub sent-sent : (a b : Option (End × M)) (f : End → List M) → ((e : End) (v w : M) → a ≡ Some (e, v) → b ≡ Some (e, w) → ⊥) → sent a (sent b f) ≡ sent b (sent a f)
   sent-sent None b f ne = refl
   sent-sent (Some x) None f ne = refl
@@ -45,6 +47,7 @@ module _ {M : Type 0} where
     ]
   ])
 
+  -- a receipt of what is owed already, and a send
   pub taken-sent : (a : Option (End × M)) (takes : Bool) (z : End) (f : End → List M) (m : M) (rest : List M) → f z ≡ m ∷ rest → taken takes z (sent a f) ≡ sent a (taken takes z f)
   taken-sent None takes z f m rest is = refl
   taken-sent (Some x) takes z f m rest is = fun_ext (λ e. elim (split (same_end x.0 e)) [
@@ -57,6 +60,7 @@ module _ {M : Type 0} where
     ]
   ])
 
+  -- receipts of what two ends owe
   pub taken-taken : (t u : Bool) (y z : End) (f : End → List M) → y ≢ z → taken t y (taken u z f) ≡ taken u z (taken t y f)
   taken-taken t u y z f ne = fun_ext (λ e. elim (split (t && same_end y e)) [
     | inr i ↦ rw i refl
@@ -71,6 +75,7 @@ module _ {M : Type 0} where
   added None e = []
   added (Some x) e = if same_end x.0 e then x.1 ∷ [] else []
 
+  -- a send only adds at the end
   pub sent-added : (a : Option (End × M)) (f : End → List M) (e : End) → sent a f e ≡ f e ++ added a e
   unfolding added
   sent-added None f e = sym (append-nil (f e))
@@ -79,11 +84,13 @@ module _ {M : Type 0} where
     | inr i ↦ rw i (sym (append-nil (f e)))
   ]
 
+  -- nothing is added elsewhere
   added-other : (a : Option (End × M)) (e : End) → ((v : M) → a ≢ Some (e, v)) → added a e ≡ []
   unfolding added
   added-other None e ne = refl
   added-other (Some x) e ne = rw (apart x.0 e (λ i. ne x.1 (λ k. Some (i k, x.1)))) refl
 
+  -- an identity, and a send on no end of its own
   pub joined-sent : (a : Option (End × M)) (x y x2 y2 : End) (f : End → List M) → ((v : M) → a ≢ Some (x, v)) → ((v : M) → a ≢ Some (y, v)) → joined x y x2 y2 (sent a f) ≡ sent a (joined x y x2 y2 f)
   unfolding Reads
   joined-sent a x y x2 y2 f nx ny =
@@ -103,14 +110,17 @@ module _ {M : Type 0} where
         | inr (inr (inr (nex, ney, nex2, ney2, q))) ↦ cc (q (sent a f), q f, right, sent-added a f e)
       ])
 
+  -- a receipt changes nothing elsewhere
   pub taken-other : (t : Bool) (z : End) (f : End → List M) (e : End) → z ≢ e → taken t z f e ≡ f e
   taken-other false z f e ne = refl
   taken-other true z f e ne = rw (apart z e ne) refl
 
+  -- and takes the first where it is
   taken-there : (t : Bool) (z : End) (f : End → List M) → taken t z f z ≡ (if t then rest_of (f z) else f z)
   taken-there false z f = refl
   taken-there true z f = rw (same_end-refl z) refl
 
+  -- the first of two lists loses its first
   rest-append : (t : Bool) (xs ys : List M) (m : M) (rest : List M) → xs ≡ m ∷ rest → (if t then rest_of (xs ++ ys) else xs ++ ys) ≡ (if t then rest_of xs else xs) ++ ys
   rest-append false xs ys m rest e = refl
   rest-append true xs ys m rest e = rw e refl
@@ -156,15 +166,19 @@ module _ {M : Type 0} where
     | inr j ↦ rw (j, ap (λ t. same_end t e) i ∙ same_end-refl e) refl
   ]
 
+  -- the new partner y2 owes what x owed first
   pub at_y2 : (x y x2 y2 : End) (f : End → List M) → x ≢ y2 → y ≢ y2 → joined x y x2 y2 f y2 ≡ f x ++ f y2
   at_y2 x y x2 y2 f nx ny = rw (apart x y2 nx, apart y y2 ny, same_end-refl y2) refl
 
+  -- and x2 what y owed first
   pub at_x2 : (x y x2 y2 : End) (f : End → List M) → x ≢ x2 → y ≢ x2 → y2 ≢ x2 → joined x y x2 y2 f x2 ≡ f y ++ f x2
   at_x2 x y x2 y2 f nx ny ny2 = rw (apart x x2 nx, apart y x2 ny, apart y2 x2 ny2, same_end-refl x2) refl
 
+  -- elsewhere an identity changes nothing
   pub off : (x y x2 y2 : End) (f : End → List M) (e : End) → Off x y x2 y2 e → joined x y x2 y2 f e ≡ f e
   off x y x2 y2 f e n = rw (apart x e n.not_x, apart y e n.not_y, apart y2 e n.not_y2, apart x2 e n.not_x2) refl
 
+  -- two identities that share no end
   pub joined-joined : (x y x2 y2 u v u2 v2 : End) (f : End → List M) → Off x y x2 y2 u → Off x y x2 y2 v → Off x y x2 y2 u2 → Off x y x2 y2 v2 →
       joined x y x2 y2 (joined u v u2 v2 f) ≡ joined u v u2 v2 (joined x y x2 y2 f)
   unfolding Reads

@@ -9,6 +9,7 @@ use Rattle.campl_machine.proofs.Wired.{Sits, sits, wired, wired-gone, wired-x2, 
 use Rattle.campl_machine.specs.Independence.{Paired, AllNew, BearsNew}
 use Rattle.campl_machine.specs.Graph.{Mutual}
 
+-- one new channel
 one-channel : (f : End → Option End) (a b : End) → Mutual f → a ≢ b → f a ≡ None → f b ≡ None → Mutual (λ k. if same_end a k then Some b else if same_end b k then Some a else f k)
 one-channel f a b m ab fa fb = record {
   back = back;
@@ -52,6 +53,7 @@ births (c ∷ cs) f m n fresh =
     (elsewhere same_end same_end-is same_end-refl (both_ways cs) f c.0 n.1 ∙ fresh c.0 (inl refl))
     (elsewhere same_end same_end-is same_end-refl (both_ways cs) f c.1 n.2 ∙ fresh c.1 (inr (inl refl)))
 
+-- an identity keeps partners mutual
 identity : (f : End → Option End) (x y x2 y2 : End) → Mutual f → f x ≡ Some x2 → f y ≡ Some y2 → x ≢ y → x2 ≢ y → Mutual (wired x y x2 y2 f)
 unfolding Sits
 identity f x y x2 y2 m px py xy x2y = record { back = back; other = other }
@@ -93,6 +95,7 @@ identity f x y x2 y2 m px py xy x2y = record { back = back; other = other }
       | inr (inr (inr o)) ↦ m.other a (sym (wired-off x y x2 y2 f a o) ∙ h)
     ]
 
+-- each step keeps partners mutual
 pub paired-kept : {S M : Type 0} (c : Config S M) (p : Who) (A : Act S M) (b : Config S M) → Paired c → BearsNew A → ((e : End) → Lies (ends_born A) e → c.partner e ≡ None) → Does c p A b → Paired b
 paired-kept {S} {M} c p (Moves m) b pr new fresh e =
     subst (λ (k : Config S M). Mutual k.partner) (sym e) (births m.channels c.partner pr new fresh)

@@ -6,6 +6,7 @@ use Rattle.campl_machine.proofs.Same.{same_who-is, same_who-refl}
 use Rattle.campl_machine.proofs.Updates.{split, elsewhere}
 use Rattle.campl_machine.proofs.Ends.{apart, unlike}
 
+-- what is computed is told
 pub does_of : {S M : Type 0} (c : Config S M) (p : Who) (A : Act S M) (d : Config S M) → performs c p A ≡ Some d → Does c p A d
 does_of c p (Moves m) d e = cc e
 does_of {S} {M} c p (Looks takes x k) d e = go (c.partner x) refl e
@@ -36,6 +37,7 @@ does_of c p (Links x y) d e = go (c.partner x) (c.partner y) refl refl e
 does_of c p Stands d e = absurd (cc e)
 does_of c p Breaks d e = absurd (cc e)
 
+-- what is told is computed
 pub of_does : {S M : Type 0} (c : Config S M) (p : Who) (A : Act S M) (d : Config S M) → Does c p A d → performs c p A ≡ Some d
 of_does c p (Moves m) d e = ap Some (sym e)
 of_does c p (Looks takes x k) d (z, m, ms, s, pz, is, h, e) = rw (pz, is, h) (ap Some (sym e))

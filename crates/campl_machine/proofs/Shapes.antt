@@ -8,6 +8,7 @@ use Rattle.campl_machine.proofs.Bridges.{no_cycle, each_bridge}
 use Rattle.campl_machine.proofs.Surgery.{shrink, grow, remove}
 
 module _ {E N : Type 0} (same : E → E → Bool) (tells : TellsApart same) (g h : Graph E N) where
+  -- contraction, splitting and removal, of graphs with no cycle
   pub contraction : (old_name : E → E) (x y : E) (p m : N) → Contracts g h old_name x y p m → NoCycle g → NoCycle h
   contraction old_name x y p m s forest = no_cycle h (shrink g h old_name x y p m s (each_bridge g (decides same tells) forest))
 
@@ -41,6 +42,7 @@ module _ {E N : Type 0} (same : E → E → Bool) (tells : TellsApart same) (g h
             ],
           )
 
+  -- so it makes no cycle
   pub receipt-forest : (p message : N) (x z : E) → Receipt g h p message x z → NoCycle g → NoCycle h
   receipt-forest p message x z r = contraction (λ e. e) x z p message (receipt-contracts p message x z r)
 
@@ -63,6 +65,7 @@ module _ {E N : Type 0} (same : E → E → Bool) (tells : TellsApart same) (g h
         | inr i ↦ (p, i.1, inr (cc (i.0, is), refl))
       ]
 
+  -- so it makes no cycle
   pub peel-forest : (p child : N) (n k : E) → Peel g h p child n k → NoCycle g → NoCycle h
   peel-forest p child n k s = splitting n k p child (peel-splits p child n k s)
 
@@ -78,5 +81,6 @@ module _ {E N : Type 0} (same : E → E → Bool) (tells : TellsApart same) (g h
       stood : (e : E) (u : N) → h.at e ≡ Some u → g.at e ≡ Some u
       stood e u is = elim (s.others e) [ inl i ↦ sym i ∙ is | inr n ↦ absurd (cc (n, is)) ]
 
+  -- so no cycle comes
   pub gives-up-forest : GivesUp g h → NoCycle g → NoCycle h
   gives-up-forest s = removal (gives-up-removes s)

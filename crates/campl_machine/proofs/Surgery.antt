@@ -11,10 +11,12 @@ module _ {E N : Type 0} (g h : Graph E N) (rho : E → E) (x y : E) (p m : N) wh
   carried S k a u (inl e) s = subst S e s
   carried S k a u (inr q) s = subst S (sym q.1) (k (subst S q.0 s))
 
+  -- and back
   carried_back : (S : N → Type 0) → (S p → S m) → (a u : N) → Becomes p m a u → S u → S a
   carried_back S k a u (inl e) s = subst S (sym e) s
   carried_back S k a u (inr q) s = subst S (sym q.0) (k (subst S q.1 s))
 
+  -- contraction keeps each edge a bridge
   pub shrink : Contracts g h rho x y p m → EachBridge g → EachBridge h
   shrink sh each e f u v l =
       let o : (a : N) × (b : N) × Leads g (rho e) (rho f) a b × Becomes p m a u × Becomes p m b v = sh.old e f u v l in
@@ -42,12 +44,14 @@ module _ {E N : Type 0} (same : (x y : E) → (x ≡ y) ⊎ (x ≢ y)) (g h : Gr
   Side : EachBridge g → N → Type 0
   Side each w = (w ≡ c) ⊎ ((e : E) × (f : E) × (b : N) × (w2 : N) × (a : N) × (l : Leads g e f p a) × CameFrom p c w w2 × Leads h e f c b × (each e f p a l).0 w2)
 
+  -- each node came from one node
   from_once : (u a b : N) → CameFrom p c u a → CameFrom p c u b → a ≡ b
   from_once u a b (inl q) (inl r) = q.1 ∙ sym r.1
   from_once u a b (inl q) (inr r) = absurd (q.0 r.0)
   from_once u a b (inr q) (inl r) = absurd (r.0 q.0)
   from_once u a b (inr q) (inr r) = q.1 ∙ sym r.1
 
+  -- the new edge is a bridge
   new_bridge : Splits g h n k p c → (each : EachBridge g) → Bridge h n k p c (Side each)
   unfolding Side
   new_bridge gr each = record {
@@ -74,6 +78,7 @@ module _ {E N : Type 0} (same : (x y : E) → (x ≡ y) ⊎ (x ≢ y)) (g h : Gr
         ];
   }
 
+  -- the old edges are bridges still
   old_bridge : Splits g h n k p c → (each : EachBridge g) → (e f : E) (u v : N) → Leads h e f u v → e ≢ n → e ≢ k → (S : N → Type 0) × Bridge h e f u v S
   old_bridge gr each e f u v l nn nk =
       let o : (a2 : N) × (b2 : N) × Leads g e f a2 b2 × CameFrom p c u a2 × CameFrom p c v b2 = gr.old e f u v l nn nk in
@@ -100,6 +105,7 @@ module _ {E N : Type 0} (same : (x y : E) → (x ≡ y) ⊎ (x ≢ y)) (g h : Gr
         },
       )
 
+  -- splitting keeps each edge a bridge
   pub grow : Splits g h n k p c → EachBridge g → EachBridge h
   grow gr each e f u v l = elim (same e n) [
     | inl i ↦

@@ -4,6 +4,7 @@ use Rattle.std.proofs.Math.Path.{fun_ext}
 use Rattle.campl_machine.specs.Names.{TellsApart}
 use Rattle.campl_machine.specs.Machine.{update, Lies}
 
+-- a test holds or fails
 pub split : (b : Bool) → (b ≡ true) ⊎ (b ≡ false)
 split true = inl refl
 split false = inr refl
@@ -13,6 +14,7 @@ pub both : (a b : Bool) → a && b ≡ true → (a ≡ true) × (b ≡ true)
 both true b e = (refl, e)
 both false b e = absurd (cc e)
 
+-- different names fail a test
 pub differ : {K : Type 0} → (same : K → K → Bool) → ((a b : K) → same a b ≡ true → a ≡ b) → (a b : K) → a ≢ b → same a b ≡ false
 differ same is a b ne = elim (split (same a b)) [ inl e ↦ absurd (ne (is a b e)) | inr e ↦ e ]
 
@@ -24,6 +26,7 @@ decides same t a b = elim (split (same a b)) [
 ]
 
 module _ {K V : Type 0} (same : K → K → Bool) (is : (a b : K) → same a b ≡ true → a ≡ b) (own : (a : K) → same a a ≡ true) where
+  -- nothing is updated elsewhere
   pub elsewhere : (d : List (K × V)) (f : K → V) (k : K) → (Lies d k → ⊥) → update same d f k ≡ f k
   elsewhere [] f k n = refl
   elsewhere (e ∷ es) f k n = rw (differ same is e.0 k (λ i. n (inl i))) (elsewhere es f k (λ l. n (inr l)))
@@ -39,6 +42,7 @@ module _ {K V : Type 0} (same : K → K → Bool) (is : (a b : K) → same a b �
     ]
   ]
 
+  -- updates at different places can be made in either order
   pub swap_updates : (d1 d2 : List (K × V)) (f : K → V) → ((k : K) → Lies d1 k → Lies d2 k → ⊥) → update same d1 (update same d2 f) ≡ update same d2 (update same d1 f)
   swap_updates d1 d2 f apart = fun_ext (λ k. elim (there d1 k) [
     | inl i ↦ i.1 (update same d2 f) f ∙ sym (elsewhere d2 (update same d1 f) k (apart k i.0))

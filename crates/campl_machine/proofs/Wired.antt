@@ -8,9 +8,11 @@ use Rattle.campl_machine.proofs.Updates.{split}
 use Rattle.campl_machine.proofs.Ends.{apart, unlike, ne, Off, Six}
 
 module _ (x y x2 y2 : End) where
+  -- who is whose partner after the identity of x and y
   abbrev pub wired : (End → Option End) → End → Option End
   wired f = update same_end (rewired x y x2 y2) f
 
+  -- its ends have no partner
   pub wired-gone : (f : End → Option End) (e : End) → (x ≡ e) ⊎ (y ≡ e) → wired f e ≡ None
   wired-gone f e (inl i) = rw (ap (λ t. same_end t e) i ∙ same_end-refl e) refl
   wired-gone f e (inr i) = elim (split (same_end x e)) [
@@ -18,18 +20,23 @@ module _ (x y x2 y2 : End) where
     | inr j ↦ rw (j, ap (λ t. same_end t e) i ∙ same_end-refl e) refl
   ]
 
+  -- x2's is y2
   pub wired-x2 : (f : End → Option End) → x ≢ x2 → y ≢ x2 → wired f x2 ≡ Some y2
   wired-x2 f nx ny = rw (apart x x2 nx, apart y x2 ny, same_end-refl x2) refl
 
+  -- and y2's is x2
   pub wired-y2 : (f : End → Option End) → x ≢ y2 → y ≢ y2 → x2 ≢ y2 → wired f y2 ≡ Some x2
   wired-y2 f nx ny n2 = rw (apart x y2 nx, apart y y2 ny, apart x2 y2 n2, same_end-refl y2) refl
 
+  -- the others keep theirs
   pub wired-off : (f : End → Option End) (e : End) → Off x y x2 y2 e → wired f e ≡ f e
   wired-off f e n = rw (apart x e n.not_x, apart y e n.not_y, apart x2 e n.not_x2, apart y2 e n.not_y2) refl
 
+  -- the places of an end
   unfoldable pub Sits : End → Type 0
   Sits e = ((x ≡ e) ⊎ (y ≡ e)) ⊎ (x2 ≡ e) ⊎ (y2 ≡ e) ⊎ Off x y x2 y2 e
 
+  -- each end is at one of them
   pub sits : (e : End) → Sits e
   unfolding Sits
   sits e = elim (split (same_end x e)) [
@@ -46,6 +53,7 @@ module _ (x y x2 y2 : End) where
     ]
   ]
 
+-- two identities that share the channel of x and u
 pub wired-shared : (x y u y2 v v2 : End) (f : End → Option End) → Six x y u y2 v v2 → wired u v y2 v2 (wired x y u y2 f) ≡ wired x y v2 y2 (wired u v x v2 f)
 unfolding Sits
 wired-shared x y u y2 v v2 f s =
@@ -68,6 +76,7 @@ wired-shared x y u y2 v v2 f s =
       ]
     ])
 
+-- an identity read from its other side
 pub wired-turned : (x y x2 y2 : End) (f : End → Option End) → x2 ≢ y2 → wired x y x2 y2 f ≡ wired y x y2 x2 f
 unfolding Sits
 wired-turned x y x2 y2 f n = fun_ext (λ e. elim (sits x y x2 y2 e) [
