@@ -24,7 +24,8 @@ module _ {S M : Type 0} where
   no-end Breaks e n l = l
 
   -- steps of two nodes that bear nothing and use different ends are independent
-  pub independent : (c : Config S M) (p q : Who) (A B : Act S M) → p ≢ q → BearsNothing A → BearsNothing B → ((e : End) → Uses A e → Uses B e → ⊥) → Independent c p A q B
+  pub independent : (c : Config S M) (p q : Who) (A B : Act S M) → p ≢ q → BearsNothing A → BearsNothing B →
+      ((e : End) → Uses A e → Uses B e → ⊥) → Independent c p A q B
   independent c p q A B pq na nb apart = record {
     nodes = λ w i j. pq (own-node p A w na i ∙ sym (own-node q B w nb j));
     ends = λ e i j. no-end A e na i;
@@ -40,7 +41,8 @@ module _ {S M : Type 0} where
       ap (λ (k : End × M). k.0) q
 
   -- a send on one end of a channel and a receipt on the other
-  pub send-and-receipt : (c : Config S M) (p q : Who) (x z : End) (v : M) (s : Option S) (takes : Bool) (k : M → Option S) → Paired c → p ≢ q → c.partner x ≡ Some z →
+  pub send-and-receipt : (c : Config S M) (p q : Who) (x z : End) (v : M) (s : Option S) (takes : Bool) (k : M → Option S) → Paired c →
+      p ≢ q → c.partner x ≡ Some z →
       Commute c p (Moves (only_sends z v s)) q (Looks takes x k)
   send-and-receipt c p q x z v s takes k pr pq px =
       diamond c p q (Moves (only_sends z v s)) (Looks takes x k) pr
@@ -48,13 +50,15 @@ module _ {S M : Type 0} where
       tt
 
   -- an identity has two ends, and the partner of one is neither
-  not-own : (c d : Config S M) (q : Who) (x y x2 : End) → Paired c → c.partner x ≡ Some x2 → performs c q (Links x y) ≡ Some d → (x ≢ y) × (x2 ≢ x) × (x2 ≢ y)
+  not-own : (c d : Config S M) (q : Who) (x y x2 : End) → Paired c → c.partner x ≡ Some x2 → performs c q (Links x y) ≡ Some d →
+      (x ≢ y) × (x2 ≢ x) × (x2 ≢ y)
   not-own c d q x y x2 pr px pd =
       let (u, w, pu, pw, xy, uy, e) = does_of c q (Links x y) d pd in
       (xy, (λ i. pr.other x (cc (px, i))), (λ i. uy (cc (px, pu, i))))
 
   -- a send on the other end of an identity's channel
-  pub send-and-identity : (c : Config S M) (p q : Who) (x y x2 : End) (v : M) (s : Option S) → Paired c → p ≢ q → c.partner x ≡ Some x2 → Commute c p (Moves (only_sends x2 v s)) q (Links x y)
+  pub send-and-identity : (c : Config S M) (p q : Who) (x y x2 : End) (v : M) (s : Option S) → Paired c → p ≢ q → c.partner x ≡ Some x2 →
+      Commute c p (Moves (only_sends x2 v s)) q (Links x y)
   send-and-identity c p q x y x2 v s pr pq px b d pb pd =
       let n : (x ≢ y) × (x2 ≢ x) × (x2 ≢ y) = not-own c d q x y x2 pr px pd in
       diamond c p q (Moves (only_sends x2 v s)) (Links x y) pr
@@ -62,7 +66,8 @@ module _ {S M : Type 0} where
       tt b d pb pd
 
   -- a receipt on the other end of an identity's channel
-  pub receipt-and-identity : (c : Config S M) (p q : Who) (x y x2 : End) (takes : Bool) (k : M → Option S) → Paired c → p ≢ q → c.partner x ≡ Some x2 → Commute c p (Looks takes x2 k) q (Links x y)
+  pub receipt-and-identity : (c : Config S M) (p q : Who) (x y x2 : End) (takes : Bool) (k : M → Option S) → Paired c → p ≢ q →
+      c.partner x ≡ Some x2 → Commute c p (Looks takes x2 k) q (Links x y)
   receipt-and-identity c p q x y x2 takes k pr pq px b d pb pd =
       let n : (x ≢ y) × (x2 ≢ x) × (x2 ≢ y) = not-own c d q x y x2 pr px pd in
       diamond c p q (Looks takes x2 k) (Links x y) pr
@@ -70,7 +75,8 @@ module _ {S M : Type 0} where
       tt b d pb pd
 
   -- two identities that share one channel
-  pub two-identities : (c : Config S M) (p q : Who) (x y x2 w : End) → Paired c → p ≢ q → c.partner x ≡ Some x2 → w ≢ x → w ≢ y → c.partner y ≢ Some w → Commute c p (Links x2 w) q (Links x y)
+  pub two-identities : (c : Config S M) (p q : Who) (x y x2 w : End) → Paired c → p ≢ q → c.partner x ≡ Some x2 → w ≢ x → w ≢ y →
+      c.partner y ≢ Some w → Commute c p (Links x2 w) q (Links x y)
   two-identities c p q x y x2 w pr pq px wx wy far b d pb pd =
       let n : (x ≢ y) × (x2 ≢ x) × (x2 ≢ y) = not-own c d q x y x2 pr px pd in
       let bx : c.partner x2 ≡ Some x = pr.back x x2 px in

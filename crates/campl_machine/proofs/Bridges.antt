@@ -26,7 +26,8 @@ module _ {E N : Type 0} (g : Graph E N) where
   }
 
   -- a walk that avoids the edge stays on its side
-  stays : (e f : E) (u v : N) (S : N → Type 0) → Leads g e f u v → Bridge g e f u v S → (es : List E) (a b : N) → Walk g es a b → Avoids g e es → S a → S b
+  stays : (e f : E) (u v : N) (S : N → Type 0) → Leads g e f u v → Bridge g e f u v S → (es : List E) (a b : N) → Walk g es a b →
+      Avoids g e es → S a → S b
   stays e f u v S le br [] a b w av s = subst S w s
   stays e f u v S le br (x ∷ es) a b (y, c, l, w) av s =
       stays e f u v S le br es c b w av.2 (br.kept x y a c l av.0 (λ i. av.1 (cc (l.there, le.back, i))) s)
@@ -84,7 +85,8 @@ module _ {E N : Type 0} (g : Graph E N) where
     Reached e v w = (es : List E) × Walk g es v w × Avoids g e es
 
     -- one more edge at the end of a walk
-    one_more : (x y : E) (a b : N) → Leads g x y a b → (e : E) → x ≢ e → g.partner x ≢ Some e → (es : List E) (v : N) → Walk g es v a → Avoids g e es → Reached e v b
+    one_more : (x y : E) (a b : N) → Leads g x y a b → (e : E) → x ≢ e → g.partner x ≢ Some e → (es : List E) (v : N) → Walk g es v a →
+        Avoids g e es → Reached e v b
     unfolding Reached
     one_more x y a b l e ne np [] v w av = (x ∷ [], (y, b, subst (λ q. Leads g x y q b) (sym w) l, refl), (ne, np, tt))
     one_more x y a b l e ne np (t ∷ es) v (r, m, k, w) av =

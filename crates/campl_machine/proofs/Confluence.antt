@@ -80,7 +80,8 @@ module _ {C L : Type 0} (Red : C → L → C → Type 0) (Good : C → Type 0)
         (p.0 ++ q.0, sym (append_assoc (view a) p.0 q.0) ∙ (ap (λ t. t ++ q.0) p.1 ∙ q.1))
 
     -- of what two runs show, one is a prefix of the other
-    pub prefix : (m n : ℕ) (a b c : C) → Good a → Run Red m a b → Run Red n a c → IsPrefixOf (view b) (view c) ⊎ IsPrefixOf (view c) (view b)
+    pub prefix : (m n : ℕ) (a b c : C) → Good a → Run Red m a b → Run Red n a c →
+        IsPrefixOf (view b) (view c) ⊎ IsPrefixOf (view c) (view b)
     prefix m n a b c g p q =
         let d : (d : C) × Reaches Red b d × Reaches Red c d = confluent m a b c g p (n, q) in
         both_prefix (view b) (view c) (view d.0) (run_grows d.1.0 b d.0 (good_run m a b g p) d.1.1) (run_grows d.2.0 c d.0 (good_run n a c g q) d.2.1)

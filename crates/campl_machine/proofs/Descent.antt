@@ -37,7 +37,8 @@ module _ {E N : Type 0} (g : Graph E N) (same_node : (x y : N) → (x ≡ y) ⊎
     pub once : (u v : N) (e f : E) → S u → S v → point u ≡ Some e → point v ≡ Some f → Leads g e f u v → ⊥
 
   -- finitely many nodes do not all point on
-  pub descend : (k : ℕ) (ys : List N) → length ys ≤ k → EachBridge g → (S : N → Type 0) → ((u : N) → S u → Within ys u) → Goes S → (u : N) → S u → ⊥
+  pub descend : (k : ℕ) (ys : List N) → length ys ≤ k → EachBridge g → (S : N → Type 0) → ((u : N) → S u → Within ys u) → Goes S →
+      (u : N) → S u → ⊥
   descend zero ys short each S within goes u s = absurd (omega (arith, without_shorter ys u (within u s)))
   descend (suc k) ys short each S within goes u s =
       let o : (e : E) × (f : E) × (v : N) × (point u ≡ Some e) × Leads g e f u v × S v = goes.on u s in
@@ -102,7 +103,8 @@ module _ {E N : Type 0} (g : Graph E N) (same_node : (x y : N) → (x ≡ y) ⊎
   ]
 
 -- progress in a graph with no cycle
-pub some-stops : {E N : Type 0} (same_edge : E → E → Bool) (same_node : N → N → Bool) → TellsApart same_edge → TellsApart same_node → (g : Graph E N) (ys : List N) (there : N → Bool) (point : N → Option E) →
+pub some-stops : {E N : Type 0} (same_edge : E → E → Bool) (same_node : N → N → Bool) → TellsApart same_edge → TellsApart same_node →
+    (g : Graph E N) (ys : List N) (there : N → Bool) (point : N → Option E) →
     Points g ys there point → NoCycle g → (u : N) → there u ≡ true → (v : N) × (there v ≡ true) × (point v ≡ None)
 unfolding Finds
 some-stops same_edge same_node edges nodes g ys there point points forest u tu =

@@ -52,7 +52,8 @@ module _ {E N : Type 0} (same : E → E → Bool) (tells : TellsApart same) (sam
       unlike : (a b : E) → same a b ≡ false → a ≢ b
       unlike a b i k = let z : same a b ≡ true = subst (λ t. same a t ≡ true) k (tells.own a) in absurd (cc (z, i))
 
-      raised : (o : Option N) → h.at e ≡ o → lower o ≡ Some u → (w : N) × (h.at e ≡ Some w) × (((w ≡ child) × (u ≡ message)) ⊎ ((w ≢ child) × (u ≡ w)))
+      raised : (o : Option N) → h.at e ≡ o → lower o ≡ Some u →
+          (w : N) × (h.at e ≡ Some w) × (((w ≡ child) × (u ≡ message)) ⊎ ((w ≢ child) × (u ≡ w)))
       raised None at z = absurd (cc z)
       raised (Some w) at z = elim (decides same_node nodes w child) [
         | inl i ↦ let q : lower (Some w) ≡ Some message = ap (λ t. lower (Some t)) i ∙ lower-child in (w, at, inl (i, cc (z, q)))
@@ -91,7 +92,8 @@ module _ {E N : Type 0} (same : E → E → Bool) (tells : TellsApart same) (sam
         (a.2.0, b.2.0, record { there = sym (s.partners e en el a.0 a.1) ∙ l.there; back = sym (s.partners f fn fl b.0 b.1) ∙ l.back; from = a.2.1; to = b.2.1 }, a.2.2, b.2.2);
   }
     where
-      placed : (e : E) (u w : N) → (h.at e ≡ g.at e) ⊎ ((g.at e ≡ Some p) × ((h.at e ≡ Some child) ⊎ (h.at e ≡ Some message))) → h.at e ≡ Some w → ((w ≡ child) × (u ≡ message)) ⊎ ((w ≢ child) × (u ≡ w)) →
+      placed : (e : E) (u w : N) → (h.at e ≡ g.at e) ⊎ ((g.at e ≡ Some p) × ((h.at e ≡ Some child) ⊎ (h.at e ≡ Some message))) →
+          h.at e ≡ Some w → ((w ≡ child) × (u ≡ message)) ⊎ ((w ≢ child) × (u ≡ w)) →
           (a : N) × (g.at e ≡ Some a) × CameFrom p message u a
       placed e u w (inl i) is (inl (j, k)) = absurd ((s.fresh e).0 (sym i ∙ (is ∙ ap Some j)))
       placed e u w (inl i) is (inr (j, k)) = (w, sym i ∙ is, inl ((λ m. (s.fresh e).1 (sym i ∙ (is ∙ ap Some (sym k ∙ m)))), sym k))
@@ -99,7 +101,8 @@ module _ {E N : Type 0} (same : E → E → Bool) (tells : TellsApart same) (sam
       placed e u w (inr (i, inl x)) is (inr (j, k)) = absurd (j (cc (x, is)))
       placed e u w (inr (i, inr x)) is (inr (j, k)) = (p, i, inr (cc (x, is, k), refl))
 
-      came : (e : E) (u : N) → e ≢ n1 → e ≢ l1 → middle.at e ≡ Some u → (e ≢ n2) × (e ≢ l2) × ((a : N) × (g.at e ≡ Some a) × CameFrom p message u a)
+      came : (e : E) (u : N) → e ≢ n1 → e ≢ l1 → middle.at e ≡ Some u →
+          (e ≢ n2) × (e ≢ l2) × ((a : N) × (g.at e ≡ Some a) × CameFrom p message u a)
       came e u en el is =
           let t : (e ≢ n2) × (e ≢ l2) × ((w : N) × (h.at e ≡ Some w) × (((w ≡ child) × (u ≡ message)) ⊎ ((w ≢ child) × (u ≡ w)))) = stood e u is in
           (t.0, t.1, placed e u t.2.0 (s.others e en el t.0 t.1) t.2.1 t.2.2)

@@ -69,7 +69,8 @@ module _ {N : Type 0} where
 
     module _ (A : N) (sa : stand x2 ≡ Some A) where
       -- each edge of the new graph is one of the old graph
-      old-edge : (e f : End) (u v : N) → Leads after e f u v → (a : N) × (b : N) × Leads before (old_name e) (old_name f) a b × Becomes A P a u × Becomes A P b v
+      old-edge : (e f : End) (u v : N) → Leads after e f u v →
+          (a : N) × (b : N) × Leads before (old_name e) (old_name f) a b × Becomes A P a u × Becomes A P b v
       unfolding after before Kinds
       old-edge e f u v l = elim (kinds e f l.there) [
         | inl (i, j) ↦

@@ -41,7 +41,8 @@ module _ {S M : Type 0} where
   }
 
   -- a receipt by p and an identity of q whose second channel isn't p's
-  meet-looks-u : (c : Config S M) (p q : Who) (t : Bool) (x u v : End) (k : M → Option S) (b d : Config S M) → Paired c → p ≢ q → x ≢ u → x ≢ v → c.partner x ≢ Some v →
+  meet-looks-u : (c : Config S M) (p q : Who) (t : Bool) (x u v : End) (k : M → Option S) (b d : Config S M) → Paired c → p ≢ q → x ≢ u →
+      x ≢ v → c.partner x ≢ Some v →
       Does c p (Looks t x k) b → Does c q (Links u v) d → Meets b d p (Looks t x k) q (Links u v)
   unfolding Meets
   meet-looks-u c p q t x u v k b d pr pq xu xv far (z, m, rest, s, px, is, fits, eb) (u2, v2, pu, pv, uv, u2v, ed) =
@@ -81,12 +82,14 @@ module _ {S M : Type 0} where
       ]
 
   -- the second step's identity read from its other side
-  turn-links : (b d : Config S M) (p q : Who) (A : Act S M) (u v : End) → Paired b → Meets b d p A q (Links u v) → Meets b d p A q (Links v u)
+  turn-links : (b d : Config S M) (p q : Who) (A : Act S M) (u v : End) → Paired b → Meets b d p A q (Links u v) →
+      Meets b d p A q (Links v u)
   unfolding Meets
   turn-links b d p q A u v pr m = (m.0, turned b q u v m.0 pr m.1, m.2)
 
   -- a receipt by p and an identity of q
-  meet-looks-links : (c : Config S M) (p q : Who) (t : Bool) (x u v : End) (k : M → Option S) (b d : Config S M) → Paired c → Paired b → p ≢ q → x ≢ u → x ≢ v →
+  meet-looks-links : (c : Config S M) (p q : Who) (t : Bool) (x u v : End) (k : M → Option S) (b d : Config S M) → Paired c → Paired b →
+      p ≢ q → x ≢ u → x ≢ v →
       Does c p (Looks t x k) b → Does c q (Links u v) d → Meets b d p (Looks t x k) q (Links u v)
   meet-looks-links c p q t x u v k b d pr prb pq xu xv db dd = elim (same-some (c.partner x) v) [
     | inr far ↦ meet-looks-u c p q t x u v k b d pr pq xu xv far db dd
@@ -132,12 +135,14 @@ module _ {S M : Type 0} where
       (e, subst (λ k. Does k q (Links u v) e) (sym eb2) before, subst (λ k. Does k p (Links x y) e) (sym ed2) after)
 
   -- the first step's identity read from its other side
-  turn-links-first : (b d : Config S M) (p q : Who) (B : Act S M) (x y : End) → Paired d → Meets b d p (Links x y) q B → Meets b d p (Links y x) q B
+  turn-links-first : (b d : Config S M) (p q : Who) (B : Act S M) (x y : End) → Paired d → Meets b d p (Links x y) q B →
+      Meets b d p (Links y x) q B
   unfolding Meets
   turn-links-first b d p q B x y pr m = (m.0, m.1, turned d p x y m.0 pr m.2)
 
   -- two identities
-  meet-links : (c : Config S M) (p q : Who) (x y u v : End) (b d : Config S M) → Paired c → Paired b → Paired d → p ≢ q → x ≢ u → x ≢ v → y ≢ u → y ≢ v → NotBoth {S = S} {M = M} c (Links x y) (Links u v) →
+  meet-links : (c : Config S M) (p q : Who) (x y u v : End) (b d : Config S M) → Paired c → Paired b → Paired d → p ≢ q → x ≢ u → x ≢ v →
+      y ≢ u → y ≢ v → NotBoth {S = S} {M = M} c (Links x y) (Links u v) →
       Does c p (Links x y) b → Does c q (Links u v) d → Meets b d p (Links x y) q (Links u v)
   unfolding Meets
   meet-links c p q x y u v b d pr prb prd pq nxu nxv nyu nyv nb db dd = elim (same-some (c.partner x) u) [
@@ -159,7 +164,8 @@ module _ {S M : Type 0} where
               let ou2 : Off x y x2 y2 u2 = record { not_x = λ k. xu (cc (bu, k)); not_y = λ k. yu (cc (bu, k)); not_x2 = λ k. nxu (cc (pr.back x x2 px, bu, k)); not_y2 = λ k. nyu (cc (pr.back y y2 py, bu, k)) } in
               let ov2 : Off x y x2 y2 v2 = record { not_x = λ k. xv (cc (bv, k)); not_y = λ k. yv (cc (bv, k)); not_x2 = λ k. nxv (cc (pr.back x x2 px, bv, k)); not_y2 = λ k. nyv (cc (pr.back y y2 py, bv, k)) } in
               let e : Config S M = linked (linked c p x y x2 y2) q u v u2 v2 in
-              let before : Does (linked c p x y x2 y2) q (Links u v) e = (u2, v2, wired-off x y x2 y2 c.partner u ou ∙ pu, wired-off x y x2 y2 c.partner v ov ∙ pv, uv, u2v, refl) in
+              let before : Does (linked c p x y x2 y2) q (Links u v) e =
+              (u2, v2, wired-off x y x2 y2 c.partner u ou ∙ pu, wired-off x y x2 y2 c.partner v ov ∙ pv, uv, u2v, refl) in
               let after : Does (linked c q u v u2 v2) p (Links x y) e = (
                 x2,
                 y2,
@@ -176,11 +182,13 @@ module _ {S M : Type 0} where
   ]
 
   -- an end that has a partner keeps it where others are born
-  no-births : (c : Config S M) (m : Move S M) (e f : End) → ((x : End) → Lies (both_ways m.channels) x → c.partner x ≡ None) → c.partner e ≡ Some f → update same_end (both_ways m.channels) c.partner e ≡ Some f
+  no-births : (c : Config S M) (m : Move S M) (e f : End) → ((x : End) → Lies (both_ways m.channels) x → c.partner x ≡ None) →
+      c.partner e ≡ Some f → update same_end (both_ways m.channels) c.partner e ≡ Some f
   no-births c m e f fresh is = elsewhere same_end same_end-is same_end-refl (both_ways m.channels) c.partner e (λ l. let n : c.partner e ≡ None = fresh e l in cc (n, is)) ∙ is
 
   -- a move and a receipt
-  meet-moves-looks : (c : Config S M) (p q : Who) (m : Move S M) (t : Bool) (x : End) (k : M → Option S) (b d : Config S M) → Independent c p (Moves m) q (Looks t x k) →
+  meet-moves-looks : (c : Config S M) (p q : Who) (m : Move S M) (t : Bool) (x : End) (k : M → Option S) (b d : Config S M) →
+      Independent c p (Moves m) q (Looks t x k) →
       Does c p (Moves m) b → Does c q (Looks t x k) d → Meets b d p (Moves m) q (Looks t x k)
   unfolding Meets
   meet-moves-looks c p q m t x k b d s eb (z, v, rest, l, px, is, fits, ed) =
@@ -191,7 +199,8 @@ module _ {S M : Type 0} where
       (e, subst (λ y. Does y q (Looks t x k) e) (sym eb) before, subst (λ y. Does y p (Moves m) e) (sym ed) after)
 
   -- a move and an identity
-  meet-moves-links : (c : Config S M) (p q : Who) (m : Move S M) (x y : End) (b d : Config S M) → Paired c → Independent c p (Moves m) q (Links x y) →
+  meet-moves-links : (c : Config S M) (p q : Who) (m : Move S M) (x y : End) (b d : Config S M) → Paired c →
+      Independent c p (Moves m) q (Links x y) →
       Does c p (Moves m) b → Does c q (Links x y) d → Meets b d p (Moves m) q (Links x y)
   unfolding Meets
   meet-moves-links c p q m x y b d pr s eb (x2, y2, px, py, xy, x2y, ed) =
@@ -205,7 +214,8 @@ module _ {S M : Type 0} where
   back-independent c p q A B s = record { nodes = λ w i j. s.nodes w j i; ends = λ e i j. s.ends e j i; uses = λ e i j. s.uses e j i; fresh_a = s.fresh_b; fresh_b = s.fresh_a }
 
   -- a receipt or an identity leaves each end's partner with it as its own
-  looks-paired : (c : Config S M) (p : Who) (t : Bool) (x : End) (k : M → Option S) (b : Config S M) → Paired c → Does c p (Looks t x k) b → Paired b
+  looks-paired : (c : Config S M) (p : Who) (t : Bool) (x : End) (k : M → Option S) (b : Config S M) → Paired c →
+      Does c p (Looks t x k) b → Paired b
   looks-paired c p t x k b pr db = paired-kept c p (Looks t x k) b pr tt (λ e l. absurd l) db
 
   -- and so does an identity
@@ -213,7 +223,8 @@ module _ {S M : Type 0} where
   links-paired c p x y b pr db = paired-kept c p (Links x y) b pr tt (λ e l. absurd l) db
 
   -- both orders are possible, and lead to one configuration
-  pub meet : (c : Config S M) (p q : Who) (A B : Act S M) (b d : Config S M) → Paired c → p ≢ q → Independent c p A q B → NotBoth c A B → Does c p A b → Does c q B d → Meets b d p A q B
+  pub meet : (c : Config S M) (p q : Who) (A B : Act S M) (b d : Config S M) → Paired c → p ≢ q → Independent c p A q B → NotBoth c A B →
+      Does c p A b → Does c q B d → Meets b d p A q B
   unfolding Meets
   meet c p q (Moves m) (Moves n) b d pr pq s nb eb ed =
       (moved (moved c p m) q n, ap (λ k. moved k q n) (sym eb), moves-moves c p q m n s ∙ ap (λ k. moved k p m) (sym ed))
@@ -224,7 +235,8 @@ module _ {S M : Type 0} where
       let n : z ≢ z2 = λ i. s.uses x refl (cc (pr.back x z px, pr.back y z2 py, i)) in
       let e : Config S M = looked (looked c p t z h) q u z2 h2 in
       let before : Does (looked c p t z h) q (Looks u y l) e = (z2, m2, r2, h2, py, taken-other t z c.owed z2 n ∙ is2, fits2, refl) in
-      let after : Does (looked c q u z2 h2) p (Looks t x k) e = (z, m, r, h, px, taken-other u z2 c.owed z (ne z z2 n) ∙ is, fits, looks-looks c p q t u z z2 h h2 n pq) in
+      let after : Does (looked c q u z2 h2) p (Looks t x k) e =
+      (z, m, r, h, px, taken-other u z2 c.owed z (ne z z2 n) ∙ is, fits, looks-looks c p q t u z z2 h h2 n pq) in
       (e, subst (λ k. Does k q (Looks u y l) e) (sym eb) before, subst (λ j. Does j p (Looks t x k) e) (sym ed) after)
   meet c p q (Looks t x k) (Links u v) b d pr pq s nb db dd =
       meet-looks-links c p q t x u v k b d pr (looks-paired c p t x k b pr db) pq (λ i. s.uses x refl (inl i)) (λ i. s.uses x refl (inr i)) db dd
@@ -244,7 +256,8 @@ module _ {S M : Type 0} where
   meet c p q (Links x y) Breaks b d pr pq s nb db dd = absurd dd
 
   -- the same of the steps that are computed
-  steps : (b d : Config S M) (p q : Who) (A B : Act S M) → Meets b d p A q B → (e : Config S M) × (performs b q B ≡ Some e) × (performs d p A ≡ Some e)
+  steps : (b d : Config S M) (p q : Who) (A B : Act S M) → Meets b d p A q B →
+      (e : Config S M) × (performs b q B ≡ Some e) × (performs d p A ≡ Some e)
   unfolding Meets
   steps b d p q A B (e, be, de) = (e, of_does b q B e be, of_does d p A e de)
 

@@ -47,6 +47,7 @@ module _ {C L : Type 0} (same : L → L → Bool) (tells : TellsApart same) (ste
       (omega (arith, e.1), λ sb. let z : (e.0 ≡ 0) × (b ≡ s) = stuck-stays e.0 b s sb e.2 in (z.1, omega (arith, e.1, z.0)))
 
   -- of what two runs show, one is a prefix of the other
-  pub prefixes : {A : Type 0} (shown : C → List A) → OnlyAdds step start shown → (b c : C) → Reaches (By step) start b → Reaches (By step) start c → OneIsPrefix (shown b) (shown c)
+  pub prefixes : {A : Type 0} (shown : C → List A) → OnlyAdds step start shown → (b c : C) → Reaches (By step) start b →
+      Reaches (By step) start c → OneIsPrefix (shown b) (shown c)
   unfolding Reached
   prefixes shown adds b c (m, p) (n, q) = prefix (By step) Reached kept (decides same tells) once meets shown (λ a l k g r. adds a l k g r) m n start b c here p q

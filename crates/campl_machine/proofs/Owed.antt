@@ -34,7 +34,8 @@ reads M x y x2 y2 e = elim (split (same_end x e)) [
 
 module _ {M : Type 0} where
   -- two sends on different ends
-  pub sent-sent : (a b : Option (End × M)) (f : End → List M) → ((e : End) (v w : M) → a ≡ Some (e, v) → b ≡ Some (e, w) → ⊥) → sent a (sent b f) ≡ sent b (sent a f)
+  pub sent-sent : (a b : Option (End × M)) (f : End → List M) → ((e : End) (v w : M) → a ≡ Some (e, v) → b ≡ Some (e, w) → ⊥) →
+      sent a (sent b f) ≡ sent b (sent a f)
   sent-sent None b f ne = refl
   sent-sent (Some x) None f ne = refl
   sent-sent (Some x) (Some y) f ne = fun_ext (λ e. elim (split (same_end x.0 e)) [
@@ -48,7 +49,8 @@ module _ {M : Type 0} where
   ])
 
   -- a receipt of what is owed already, and a send
-  pub taken-sent : (a : Option (End × M)) (takes : Bool) (z : End) (f : End → List M) (m : M) (rest : List M) → f z ≡ m ∷ rest → taken takes z (sent a f) ≡ sent a (taken takes z f)
+  pub taken-sent : (a : Option (End × M)) (takes : Bool) (z : End) (f : End → List M) (m : M) (rest : List M) → f z ≡ m ∷ rest →
+      taken takes z (sent a f) ≡ sent a (taken takes z f)
   taken-sent None takes z f m rest is = refl
   taken-sent (Some x) takes z f m rest is = fun_ext (λ e. elim (split (same_end x.0 e)) [
     | inr i ↦ rw i refl
@@ -91,7 +93,8 @@ module _ {M : Type 0} where
   added-other (Some x) e ne = rw (apart x.0 e (λ i. ne x.1 (λ k. Some (i k, x.1)))) refl
 
   -- an identity, and a send on no end of its own
-  pub joined-sent : (a : Option (End × M)) (x y x2 y2 : End) (f : End → List M) → ((v : M) → a ≢ Some (x, v)) → ((v : M) → a ≢ Some (y, v)) → joined x y x2 y2 (sent a f) ≡ sent a (joined x y x2 y2 f)
+  pub joined-sent : (a : Option (End × M)) (x y x2 y2 : End) (f : End → List M) → ((v : M) → a ≢ Some (x, v)) →
+      ((v : M) → a ≢ Some (y, v)) → joined x y x2 y2 (sent a f) ≡ sent a (joined x y x2 y2 f)
   unfolding Reads
   joined-sent a x y x2 y2 f nx ny =
       let at_x : sent a f x ≡ f x = sent-added a f x ∙ (ap (λ t. f x ++ t) (added-other a x nx) ∙ append-nil (f x)) in
@@ -121,12 +124,14 @@ module _ {M : Type 0} where
   taken-there true z f = rw (same_end-refl z) refl
 
   -- the first of two lists loses its first
-  rest-append : (t : Bool) (xs ys : List M) (m : M) (rest : List M) → xs ≡ m ∷ rest → (if t then rest_of (xs ++ ys) else xs ++ ys) ≡ (if t then rest_of xs else xs) ++ ys
+  rest-append : (t : Bool) (xs ys : List M) (m : M) (rest : List M) → xs ≡ m ∷ rest →
+      (if t then rest_of (xs ++ ys) else xs ++ ys) ≡ (if t then rest_of xs else xs) ++ ys
   rest-append false xs ys m rest e = refl
   rest-append true xs ys m rest e = rw e refl
 
   -- a receipt elsewhere
-  pub joined-taken : (t : Bool) (z x y x2 y2 : End) (f : End → List M) → z ≢ x → z ≢ y → z ≢ x2 → z ≢ y2 → joined x y x2 y2 (taken t z f) ≡ taken t z (joined x y x2 y2 f)
+  pub joined-taken : (t : Bool) (z x y x2 y2 : End) (f : End → List M) → z ≢ x → z ≢ y → z ≢ x2 → z ≢ y2 →
+      joined x y x2 y2 (taken t z f) ≡ taken t z (joined x y x2 y2 f)
   unfolding Reads
   joined-taken t z x y x2 y2 f nx ny nx2 ny2 = fun_ext (λ e.
       elim (reads M x y x2 y2 e) [
@@ -140,7 +145,8 @@ module _ {M : Type 0} where
       ])
 
   -- a receipt of what x owes, before the identity or after it, when y2 owes it
-  pub joined-taken-x : (t : Bool) (x y x2 y2 : End) (f : End → List M) (m : M) (rest : List M) → f x ≡ m ∷ rest → y2 ≢ x → y2 ≢ y → y2 ≢ x2 → x ≢ y → x ≢ x2 → x ≢ y2 →
+  pub joined-taken-x : (t : Bool) (x y x2 y2 : End) (f : End → List M) (m : M) (rest : List M) → f x ≡ m ∷ rest → y2 ≢ x → y2 ≢ y →
+      y2 ≢ x2 → x ≢ y → x ≢ x2 → x ≢ y2 →
       joined x y x2 y2 (taken t x f) ≡ taken t y2 (joined x y x2 y2 f)
   unfolding Reads
   joined-taken-x t x y x2 y2 f m rest is y2x y2y y2x2 xy xx2 xy2 = fun_ext (λ e.
@@ -149,10 +155,13 @@ module _ {M : Type 0} where
             let ne : y2 ≢ e = elim w [ inl i ↦ subst (λ v. y2 ≢ v) i y2x | inr i ↦ subst (λ v. y2 ≢ v) i y2y ] in
             cc (q (taken t x f), q f, taken-other t y2 (joined x y x2 y2 f) e ne)
         | inr (inl (i, nex, ney, q)) ↦
-            let left : joined x y x2 y2 (taken t x f) e ≡ (if t then rest_of (f x) else f x) ++ f y2 = cc (q (taken t x f), taken-there t x f, taken-other t x f y2 xy2) in
-            let right : taken t y2 (joined x y x2 y2 f) y2 ≡ (if t then rest_of (joined x y x2 y2 f y2) else joined x y x2 y2 f y2) = taken-there t y2 (joined x y x2 y2 f) in
+            let left : joined x y x2 y2 (taken t x f) e ≡ (if t then rest_of (f x) else f x) ++ f y2 =
+            cc (q (taken t x f), taken-there t x f, taken-other t x f y2 xy2) in
+            let right : taken t y2 (joined x y x2 y2 f) y2 ≡ (if t then rest_of (joined x y x2 y2 f y2) else joined x y x2 y2 f y2) =
+            taken-there t y2 (joined x y x2 y2 f) in
             let both_there : joined x y x2 y2 f y2 ≡ f x ++ f y2 = subst (λ v. joined x y x2 y2 f v ≡ f x ++ f y2) (sym i) (q f) in
-            let mid : taken t y2 (joined x y x2 y2 f) y2 ≡ (if t then rest_of (f x ++ f y2) else f x ++ f y2) = right ∙ ap (λ (v : List M). if t then rest_of v else v) both_there in
+            let mid : taken t y2 (joined x y x2 y2 f) y2 ≡ (if t then rest_of (f x ++ f y2) else f x ++ f y2) =
+            right ∙ ap (λ (v : List M). if t then rest_of v else v) both_there in
             left ∙ (sym (rest-append t (f x) (f y2) m rest is) ∙ (sym mid ∙ ap (taken t y2 (joined x y x2 y2 f)) i))
         | inr (inr (inl (i, nex, ney, ney2, q))) ↦ cc (q (taken t x f), q f, taken-other t x f y xy, taken-other t x f x2 xx2, taken-other t y2 (joined x y x2 y2 f) e ney2)
         | inr (inr (inr (nex, ney, nex2, ney2, q))) ↦ cc (q (taken t x f), q f, taken-other t x f e nex, taken-other t y2 (joined x y x2 y2 f) e ney2)
@@ -179,7 +188,8 @@ module _ {M : Type 0} where
   off x y x2 y2 f e n = rw (apart x e n.not_x, apart y e n.not_y, apart y2 e n.not_y2, apart x2 e n.not_x2) refl
 
   -- two identities that share no end
-  pub joined-joined : (x y x2 y2 u v u2 v2 : End) (f : End → List M) → Off x y x2 y2 u → Off x y x2 y2 v → Off x y x2 y2 u2 → Off x y x2 y2 v2 →
+  pub joined-joined : (x y x2 y2 u v u2 v2 : End) (f : End → List M) → Off x y x2 y2 u → Off x y x2 y2 v → Off x y x2 y2 u2 →
+      Off x y x2 y2 v2 →
       joined x y x2 y2 (joined u v u2 v2 f) ≡ joined u v u2 v2 (joined x y x2 y2 f)
   unfolding Reads
   joined-joined x y x2 y2 u v u2 v2 f ou ov ou2 ov2 =
@@ -205,7 +215,8 @@ module _ {M : Type 0} where
       ])
 
   -- two identities that share the channel of x and u
-  pub joined-shared : (x y u y2 v v2 : End) (f : End → List M) → Six x y u y2 v v2 → joined u v y2 v2 (joined x y u y2 f) ≡ joined x y v2 y2 (joined u v x v2 f)
+  pub joined-shared : (x y u y2 v v2 : End) (f : End → List M) → Six x y u y2 v v2 →
+      joined u v y2 v2 (joined x y u y2 f) ≡ joined x y v2 y2 (joined u v x v2 f)
   unfolding Reads
   joined-shared x y u y2 v v2 f s =
       let ou : Off x y v2 y2 u = record { not_x = s.xu; not_y = s.yu; not_x2 = ne u v2 s.uv2; not_y2 = ne u y2 s.uy2 } in

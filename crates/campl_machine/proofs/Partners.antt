@@ -10,7 +10,8 @@ use Rattle.campl_machine.specs.Independence.{Paired, AllNew, BearsNew}
 use Rattle.campl_machine.specs.Graph.{Mutual}
 
 -- one new channel
-one-channel : (f : End → Option End) (a b : End) → Mutual f → a ≢ b → f a ≡ None → f b ≡ None → Mutual (λ k. if same_end a k then Some b else if same_end b k then Some a else f k)
+one-channel : (f : End → Option End) (a b : End) → Mutual f → a ≢ b → f a ≡ None → f b ≡ None →
+    Mutual (λ k. if same_end a k then Some b else if same_end b k then Some a else f k)
 one-channel f a b m ab fa fb = record {
   back = back;
   other = λ k h. elim (split (same_end a k)) [
@@ -25,7 +26,8 @@ one-channel f a b m ab fa fb = record {
     g : End → Option End
     g k = if same_end a k then Some b else if same_end b k then Some a else f k
 
-    back : (x y : End) → (if same_end a x then Some b else if same_end b x then Some a else f x) ≡ Some y → (if same_end a y then Some b else if same_end b y then Some a else f y) ≡ Some x
+    back : (x y : End) → (if same_end a x then Some b else if same_end b x then Some a else f x) ≡ Some y →
+        (if same_end a y then Some b else if same_end b y then Some a else f y) ≡ Some x
     back x y h = elim (split (same_end a x)) [
       | inl i ↦
           let q : Some b ≡ Some y = rw i at h in
@@ -46,7 +48,8 @@ one-channel f a b m ab fa fb = record {
     ]
 
 -- channels of new ends are mutual
-pub births : (cs : List (End × End)) (f : End → Option End) → Mutual f → AllNew cs → ((e : End) → Lies (both_ways cs) e → f e ≡ None) → Mutual (update same_end (both_ways cs) f)
+pub births : (cs : List (End × End)) (f : End → Option End) → Mutual f → AllNew cs → ((e : End) → Lies (both_ways cs) e → f e ≡ None) →
+    Mutual (update same_end (both_ways cs) f)
 births [] f m n fresh = m
 births (c ∷ cs) f m n fresh =
     one-channel (update same_end (both_ways cs) f) c.0 c.1 (births cs f m n.3 (λ e l. fresh e (inr (inr l)))) n.0
@@ -96,7 +99,8 @@ identity f x y x2 y2 m px py xy x2y = record { back = back; other = other }
     ]
 
 -- each step keeps partners mutual
-pub paired-kept : {S M : Type 0} (c : Config S M) (p : Who) (A : Act S M) (b : Config S M) → Paired c → BearsNew A → ((e : End) → Lies (ends_born A) e → c.partner e ≡ None) → Does c p A b → Paired b
+pub paired-kept : {S M : Type 0} (c : Config S M) (p : Who) (A : Act S M) (b : Config S M) → Paired c → BearsNew A →
+    ((e : End) → Lies (ends_born A) e → c.partner e ≡ None) → Does c p A b → Paired b
 paired-kept {S} {M} c p (Moves m) b pr new fresh e =
     subst (λ (k : Config S M). Mutual k.partner) (sym e) (births m.channels c.partner pr new fresh)
 paired-kept {S} {M} c p (Looks t x k) b pr new fresh (z, m, ms, s, pz, is, fits, e) = subst (λ (k : Config S M). Mutual k.partner) (sym e) pr

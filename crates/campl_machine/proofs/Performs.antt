@@ -11,7 +11,8 @@ pub does_of : {S M : Type 0} (c : Config S M) (p : Who) (A : Act S M) (d : Confi
 does_of c p (Moves m) d e = cc e
 does_of {S} {M} c p (Looks takes x k) d e = go (c.partner x) refl e
   where
-    after_head : (z : End) → c.partner x ≡ Some z → (ms : List M) → c.owed z ≡ ms → looks_at c p takes k z ms ≡ Some d → Does c p (Looks takes x k) d
+    after_head : (z : End) → c.partner x ≡ Some z → (ms : List M) → c.owed z ≡ ms → looks_at c p takes k z ms ≡ Some d →
+        Does c p (Looks takes x k) d
     after_head z pz [] is f = absurd (cc f)
     after_head z pz (m ∷ ms) is f = last (k m) refl f
       where
@@ -46,7 +47,8 @@ of_does c p Stands d e = absurd e
 of_does c p Breaks d e = absurd e
 
 -- a step leaves the other nodes as they were
-pub nodes-kept : {S M : Type 0} (c : Config S M) (p q : Who) (A : Act S M) (b : Config S M) → Does c p A b → (Lies (nodes_born p A) q → ⊥) → b.nodes q ≡ c.nodes q
+pub nodes-kept : {S M : Type 0} (c : Config S M) (p q : Who) (A : Act S M) (b : Config S M) → Does c p A b →
+    (Lies (nodes_born p A) q → ⊥) → b.nodes q ≡ c.nodes q
 nodes-kept {S} {M} c p q (Moves m) b e n = ap (λ (z : Config S M). z.nodes q) e ∙ elsewhere same_who same_who-is same_who-refl ((p, m.next) ∷ alive m.children) c.nodes q n
 nodes-kept {S} {M} c p q (Looks t x k) b (z, m, ms, s, pz, is, h, e) n = ap (λ (z : Config S M). z.nodes q) e ∙ elsewhere same_who same_who-is same_who-refl ((p, Some s) ∷ []) c.nodes q n
 nodes-kept {S} {M} c p q (Links x y) b (x2, y2, px, py, xy, x2y, e) n = ap (λ (z : Config S M). z.nodes q) e ∙ elsewhere same_who same_who-is same_who-refl ((p, None) ∷ []) c.nodes q n

@@ -10,10 +10,12 @@ use Rattle.campl_machine.proofs.Meeting.{diamond}
 
 module _ {S M I : Type 0} (act : Who → S → I → Act S M) (c : Config S M) (keeps : KeepsApart act c) where
   -- two reductions of different nodes in both orders
-  pub both-orders : (p q : Who) (i j : I) (b d : Config S M) → p ≢ q → reduce act c p i ≡ Some b → reduce act c q j ≡ Some d → (e : Config S M) × (reduce act b q j ≡ Some e) × (reduce act d p i ≡ Some e)
+  pub both-orders : (p q : Who) (i j : I) (b d : Config S M) → p ≢ q → reduce act c p i ≡ Some b → reduce act c q j ≡ Some d →
+      (e : Config S M) × (reduce act b q j ≡ Some e) × (reduce act d p i ≡ Some e)
   both-orders p q i j b d n rb rd = go (c.nodes p) (c.nodes q) refl refl rb rd
     where
-      go : (o u : Option S) → c.nodes p ≡ o → c.nodes q ≡ u → reduce_state act c p i o ≡ Some b → reduce_state act c q j u ≡ Some d → (e : Config S M) × (reduce act b q j ≡ Some e) × (reduce act d p i ≡ Some e)
+      go : (o u : Option S) → c.nodes p ≡ o → c.nodes q ≡ u → reduce_state act c p i o ≡ Some b → reduce_state act c q j u ≡ Some d →
+          (e : Config S M) × (reduce act b q j ≡ Some e) × (reduce act d p i ≡ Some e)
       go None u io iu f g = absurd (cc f)
       go (Some s) None io iu f g = absurd (cc g)
       go (Some s) (Some t) io iu f g =

@@ -79,7 +79,8 @@ module _ {E N : Type 0} (same : (x y : E) → (x ≡ y) ⊎ (x ≢ y)) (g h : Gr
   }
 
   -- the old edges are bridges still
-  old_bridge : Splits g h n k p c → (each : EachBridge g) → (e f : E) (u v : N) → Leads h e f u v → e ≢ n → e ≢ k → (S : N → Type 0) × Bridge h e f u v S
+  old_bridge : Splits g h n k p c → (each : EachBridge g) → (e f : E) (u v : N) → Leads h e f u v → e ≢ n → e ≢ k →
+      (S : N → Type 0) × Bridge h e f u v S
   old_bridge gr each e f u v l nn nk =
       let o : (a2 : N) × (b2 : N) × Leads g e f a2 b2 × CameFrom p c u a2 × CameFrom p c v b2 = gr.old e f u v l nn nk in
       let br : (S : N → Type 0) × Bridge g e f o.0 o.1 S = each e f o.0 o.1 o.2 in (

@@ -43,7 +43,8 @@ module _ {K V : Type 0} (same : K → K → Bool) (is : (a b : K) → same a b �
   ]
 
   -- updates at different places can be made in either order
-  pub swap_updates : (d1 d2 : List (K × V)) (f : K → V) → ((k : K) → Lies d1 k → Lies d2 k → ⊥) → update same d1 (update same d2 f) ≡ update same d2 (update same d1 f)
+  pub swap_updates : (d1 d2 : List (K × V)) (f : K → V) → ((k : K) → Lies d1 k → Lies d2 k → ⊥) →
+      update same d1 (update same d2 f) ≡ update same d2 (update same d1 f)
   swap_updates d1 d2 f apart = fun_ext (λ k. elim (there d1 k) [
     | inl i ↦ i.1 (update same d2 f) f ∙ sym (elsewhere d2 (update same d1 f) k (apart k i.0))
     | inr n ↦ elsewhere d1 (update same d2 f) k n ∙ elim (there d2 k) [

@@ -54,7 +54,8 @@ module _ (x y x2 y2 : End) where
   ]
 
 -- two identities that share the channel of x and u
-pub wired-shared : (x y u y2 v v2 : End) (f : End → Option End) → Six x y u y2 v v2 → wired u v y2 v2 (wired x y u y2 f) ≡ wired x y v2 y2 (wired u v x v2 f)
+pub wired-shared : (x y u y2 v v2 : End) (f : End → Option End) → Six x y u y2 v v2 →
+    wired u v y2 v2 (wired x y u y2 f) ≡ wired x y v2 y2 (wired u v x v2 f)
 unfolding Sits
 wired-shared x y u y2 v v2 f s =
     let ou : Off x y v2 y2 u = record { not_x = s.xu; not_y = s.yu; not_x2 = ne u v2 s.uv2; not_y2 = ne u y2 s.uy2 } in

@@ -11,7 +11,8 @@ Becomes p m u v = (u ≡ v) ⊎ ((u ≡ m) × (v ≡ p))
 -- contraction: m became p over their edge x, y; each edge of h is another edge of g, whose halves `old_name` tells
 pub record Contracts {E N : Type 0} (g h : Graph E N) (old_name : E → E) (x y : E) (p m : N) : Type 0 where
   pub merged : Leads g x y p m
-  pub old : (e f : E) (u v : N) → Leads h e f u v → (a : N) × (b : N) × Leads g (old_name e) (old_name f) a b × Becomes p m a u × Becomes p m b v
+  pub old : (e f : E) (u v : N) → Leads h e f u v →
+      (a : N) × (b : N) × Leads g (old_name e) (old_name f) a b × Becomes p m a u × Becomes p m b v
   pub other : (e f : E) (u v : N) → Leads h e f u v → (old_name e ≢ x) × (old_name e ≢ y)
   pub one_to_one : (e f : E) (u v : N) (t r : E) (a b : N) → Leads h e f u v → Leads h t r a b → old_name e ≡ old_name t → e ≡ t
 
@@ -23,7 +24,8 @@ CameFrom p c u a = ((u ≢ c) × (a ≡ u)) ⊎ ((u ≡ c) × (a ≡ p))
 pub record Splits {E N : Type 0} (g h : Graph E N) (n k : E) (p c : N) : Type 0 where
   pub apart : p ≢ c
   pub new : Leads h n k p c
-  pub old : (e f : E) (u v : N) → Leads h e f u v → e ≢ n → e ≢ k → (a : N) × (b : N) × Leads g e f a b × CameFrom p c u a × CameFrom p c v b
+  pub old : (e f : E) (u v : N) → Leads h e f u v → e ≢ n → e ≢ k →
+      (a : N) × (b : N) × Leads g e f a b × CameFrom p c u a × CameFrom p c v b
 
 -- removal: each edge of h is one of g
 abbrev pub Removes : {E N : Type 0} → Graph E N → Graph E N → Type 0
@@ -71,7 +73,8 @@ pub record Fork {E N : Type 0} (g h : Graph E N) (p child message : N) (n1 l1 n2
   pub apart : (p ≢ child) × (p ≢ message) × (child ≢ message)
   pub fresh : (e : E) → (g.at e ≢ Some child) × (g.at e ≢ Some message)
   pub partners : (e : E) → e ≢ n1 → e ≢ l1 → e ≢ n2 → e ≢ l2 → h.partner e ≡ g.partner e
-  pub others : (e : E) → e ≢ n1 → e ≢ l1 → e ≢ n2 → e ≢ l2 → (h.at e ≡ g.at e) ⊎ ((g.at e ≡ Some p) × ((h.at e ≡ Some child) ⊎ (h.at e ≡ Some message)))
+  pub others : (e : E) → e ≢ n1 → e ≢ l1 → e ≢ n2 → e ≢ l2 →
+      (h.at e ≡ g.at e) ⊎ ((g.at e ≡ Some p) × ((h.at e ≡ Some child) ⊎ (h.at e ≡ Some message)))
 
 -- ends are given up, as by a close or by the end of a process
 pub record GivesUp {E N : Type 0} (g h : Graph E N) : Type 0 where

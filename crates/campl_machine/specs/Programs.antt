@@ -16,5 +16,6 @@ reduce act c w i = reduce_state act c w i (c.nodes w)
 -- each two steps that the program can make in c, of different nodes, are independent
 pub record KeepsApart {S M I : Type 0} (act : Who → S → I → Act S M) (c : Config S M) : Type 0 where
   pub paired : Paired c
-  pub apart : (p q : Who) (s t : S) (i j : I) (b d : Config S M) → p ≢ q → c.nodes p ≡ Some s → c.nodes q ≡ Some t → performs c p (act p s i) ≡ Some b → performs c q (act q t j) ≡ Some d →
+  pub apart : (p q : Who) (s t : S) (i j : I) (b d : Config S M) → p ≢ q → c.nodes p ≡ Some s → c.nodes q ≡ Some t →
+      performs c p (act p s i) ≡ Some b → performs c q (act q t j) ≡ Some d →
       Independent c p (act p s i) q (act q t j) × NotBoth c (act p s i) (act q t j)
