@@ -11,10 +11,10 @@ pub mod Confluence
 pub mod Bridges
 pub mod Surgery
 pub mod Beside
+pub mod Programs
 pub mod OneAnswer
 pub mod Descent
 pub mod IdentityForest
 pub mod Shapes
 pub mod Forking
 pub mod Examples
-pub mod Programs

@@ -3,8 +3,8 @@ use Rattle.std.proofs.Common.{◌≡◌, ◌≢◌, ◌∙◌, refl, Option, Som
 use Rattle.campl_machine.specs.Names.{Who}
 use Rattle.campl_machine.specs.Machine.{Config, Act, Does}
 use Rattle.campl_machine.specs.Independence.{Independent, NotBoth}
-use Rattle.campl_machine.specs.Programs.{reduce, reduce_state, KeepsApart}
-use Rattle.campl_machine.specs.Runs.{By, Diamond}
+use Rattle.campl_machine.specs.Programs.{Steps, reduce, reduce_state, KeepsApart}
+use Rattle.campl_machine.specs.Runs.{Diamond}
 use Rattle.campl_machine.proofs.Performs.{does_of, nodes-kept, itself}
 use Rattle.campl_machine.proofs.Meeting.{diamond}
 
@@ -30,5 +30,5 @@ module _ {S M I : Type 0} (act : Who → S → I → Act S M) (c : Config S M) (
           (e, rw bq be, rw dp de)
 
   -- with one choice, as a diamond of reductions
-  pub has-diamond : (i : I) → Diamond (By (λ k w. reduce act k w i)) c
+  pub has-diamond : (i : I) → Diamond (Steps act i) c
   has-diamond i p q b d n rb rd = both-orders p q i i b d n rb rd

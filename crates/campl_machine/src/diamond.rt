@@ -3,8 +3,8 @@
 ghost use Rattle.std.specs.Prelude.{◌≡◌, ◌≢◌, Bool, Option, Some};
 ghost use Rattle.campl_machine.specs.Names.{End, Who};
 ghost use Rattle.campl_machine.specs.Machine.{Act, Config, Links, Looks, Moves, Uses};
-ghost use Rattle.campl_machine.specs.Programs.{KeepsApart, reduce};
-ghost use Rattle.campl_machine.specs.Runs.{By, Diamond};
+ghost use Rattle.campl_machine.specs.Programs.{KeepsApart, Steps, reduce};
+ghost use Rattle.campl_machine.specs.Runs.{Diamond};
 ghost use Rattle.campl_machine.specs.Independence.{BearsNothing, Commute, Independent, NotBoth, Paired, only_sends};
 
 /// Two independent steps stay possible after one another, and both orders give equal configurations.
@@ -31,8 +31,7 @@ pub fn law_identity<S, M>()
 {}
 
 /// Where a program's steps are independent, its reductions have the diamond, whatever choices the nodes make.
-/// With the choice held fixed this is the premise of `law_one_answer` and of `law_prefixes`.
 pub fn law_program<S, M, I>()
     ensures both_orders { (act : Who → S → I → Act S M) (c : Config S M) → KeepsApart act c → (p q : Who) (i j : I) (b d : Config S M) → p ≢ q → reduce act c p i ≡ Some b → reduce act c q j ≡ Some d → (e : Config S M) × (reduce act b q j ≡ Some e) × (reduce act d p i ≡ Some e) }
-    ensures diamond { (act : Who → S → I → Act S M) (c : Config S M) → KeepsApart act c → (i : I) → Diamond (By (λ a w. reduce act a w i)) c }
+    ensures diamond { (act : Who → S → I → Act S M) (c : Config S M) → KeepsApart act c → (i : I) → Diamond (Steps act i) c }
 {}

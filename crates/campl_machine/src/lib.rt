@@ -20,7 +20,7 @@ mod forest;
 mod progress;
 mod step;
 
-pub use answer::{law_one_answer, law_prefixes};
+pub use answer::{Reduces, law_one_answer, law_prefixes, law_program_answer, law_program_prefixes};
 pub use diamond::{law_diamond, law_identity, law_independent, law_program, law_send_and_receipt};
 pub use forest::{
     law_contraction, law_forest_fork, law_forest_given_up, law_forest_identity, law_forest_peel,
