@@ -35,7 +35,7 @@ module _ {S M : Type 0} where
   }
 
   -- the end on which a move only sends is the one that it uses
-  sends-on : (z e : End) (v : M) (s : Option S) → Uses (Moves (only_sends z v s)) e → z ≡ e
+  pub sends-on : (z e : End) (v : M) (s : Option S) → Uses (Moves (only_sends z v s)) e → z ≡ e
   sends-on z e v s (w, i) =
       let q : ◌≡◌ {A = End × M} (z, v) (e, w) = cc i in
       ap (λ (k : End × M). k.0) q

@@ -8,27 +8,27 @@ use Rattle.campl_machine.proofs.Partners.{births}
 use Rattle.campl_machine.proofs.Beside.{send-and-receipt}
 
 -- children of a first process that is gone
-abbrev process : ℕ → Who
+abbrev pub process : ℕ → Who
 process i = Process (record { step = 1; place = i } ∷ [])
 
-abbrev sender : Who
+abbrev pub sender : Who
 sender = process 1
 
-abbrev receiver : Who
+abbrev pub receiver : Who
 receiver = process 2
 
-abbrev middle : Who
+abbrev pub middle : Who
 middle = process 3
 
 -- the two ends of the channel of this number
-abbrev near : ℕ → End
+abbrev pub near : ℕ → End
 near i = record { bearer = []; step = 1; channel = i; half = First }
 
-abbrev far : ℕ → End
+abbrev pub far : ℕ → End
 far i = record { bearer = []; step = 1; channel = i; half = Second }
 
 -- a configuration of these nodes and channels, in which nothing is owed
-abbrev at_rest : List (Who × Option ℕ) → List (End × End) → Config ℕ ℕ
+abbrev pub at_rest : List (Who × Option ℕ) → List (End × End) → Config ℕ ℕ
 at_rest nodes channels = record {
   nodes = update same_who nodes (λ w. None);
   partner = update same_end (both_ways channels) (λ e. None);
@@ -36,40 +36,40 @@ at_rest nodes channels = record {
 }
 
 -- one step after another
-abbrev after : Option (Config ℕ ℕ) → List (Who × Act ℕ ℕ) → Option (Config ℕ ℕ)
+abbrev pub after : Option (Config ℕ ℕ) → List (Who × Act ℕ ℕ) → Option (Config ℕ ℕ)
 after c [] = c
 after None (step ∷ steps) = None
 after (Some c) (step ∷ steps) = after (performs c step.0 step.1) steps
 
 -- what is seen where steps were possible
-abbrev state : Option (Config ℕ ℕ) → Who → Option ℕ
+abbrev pub state : Option (Config ℕ ℕ) → Who → Option ℕ
 state None w = None
 state (Some c) w = c.nodes w
 
-abbrev partner : Option (Config ℕ ℕ) → End → Option End
+abbrev pub partner : Option (Config ℕ ℕ) → End → Option End
 partner None e = None
 partner (Some c) e = c.partner e
 
-abbrev owed : Option (Config ℕ ℕ) → End → List ℕ
+abbrev pub owed : Option (Config ℕ ℕ) → End → List ℕ
 owed None e = []
 owed (Some c) e = c.owed e
 
 -- a process that put a value goes on in state 1, and one that got m in state 100 + m
-abbrev put : End → ℕ → Act ℕ ℕ
+abbrev pub put : End → ℕ → Act ℕ ℕ
 put e v = Moves (only_sends e v (Some 1))
 
-abbrev get : End → Act ℕ ℕ
+abbrev pub get : End → Act ℕ ℕ
 get e = Looks true e (λ m. Some (100 + m))
 
 -- a race looks at a message and leaves it
-abbrev look : End → Act ℕ ℕ
+abbrev pub look : End → Act ℕ ℕ
 look e = Looks false e (λ m. Some (100 + m))
 
 -- the sender has the near end of channel 1, and the receiver the far one
-abbrev two : Config ℕ ℕ
+abbrev pub two : Config ℕ ℕ
 two = at_rest ((sender, Some 0) ∷ (receiver, Some 0) ∷ []) ((near 1, far 1) ∷ [])
 
-abbrev sent_twice : Option (Config ℕ ℕ)
+abbrev pub sent_twice : Option (Config ℕ ℕ)
 sent_twice = after (Some two) ((sender, put (near 1) 7) ∷ (sender, put (near 1) 8) ∷ [])
 
 -- messages are received the oldest first, and the others stay owed
@@ -102,12 +102,12 @@ no-fit : after sent_twice ((receiver, Looks true (far 1) (λ m. None)) ∷ []) �
 no-fit = refl
 
 -- channel 1 leads from the sender to the middle, channel 2 from there to the receiver; each has sent on each of its ends
-abbrev three : Option (Config ℕ ℕ)
+abbrev pub three : Option (Config ℕ ℕ)
 three = after (Some (at_rest ((sender, Some 0) ∷ (middle, Some 0) ∷ (receiver, Some 0) ∷ []) ((near 1, far 1) ∷ (near 2, far 2) ∷ [])))
     ((sender, put (near 1) 1) ∷ (middle, put (far 1) 2) ∷ (middle, put (near 2) 3) ∷ (receiver, put (far 2) 4) ∷ [])
 
 -- the middle is an identity of its two ends
-abbrev joined_up : Option (Config ℕ ℕ)
+abbrev pub joined_up : Option (Config ℕ ℕ)
 joined_up = after three ((middle, Links (far 1) (near 2)) ∷ [])
 
 identity-goes : state joined_up middle ≡ None
@@ -158,7 +158,7 @@ broken : after (Some two) ((sender, Breaks) ∷ []) ≡ None
 broken = refl
 
 -- the sender bears the middle with channel 2 between them, and is gone
-abbrev born : Option (Config ℕ ℕ)
+abbrev pub born : Option (Config ℕ ℕ)
 born = after (Some two) ((sender, Moves (record { send = None; channels = (near 2, far 2) ∷ []; children = (middle, 5) ∷ []; next = None })) ∷ [])
 
 child-is-there : state born middle ≡ Some 5
@@ -174,7 +174,7 @@ born-both-ways-back : partner born (far 2) ≡ Some (near 2)
 born-both-ways-back = refl
 
 -- the premises of the laws hold here: partners are mutual, and a send on channel 1 and a receipt there commute
-two-paired : Paired two
+pub two-paired : Paired two
 two-paired = births ((near 1, far 1) ∷ []) (λ e. None) (record { back = λ e f i. absurd (cc i); other = λ e i. absurd (cc i) }) (unlike (near 1) (far 1) refl, (λ l. l), (λ l. l), tt) (λ e l. refl)
 
 send-beside-receipt : Commute two sender (put (near 1) 9) receiver (get (far 1))

@@ -18,3 +18,4 @@ pub mod IdentityForest
 pub mod Shapes
 pub mod Forking
 pub mod Examples
+pub mod OneAnswerExample

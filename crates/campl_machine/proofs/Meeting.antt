@@ -210,7 +210,7 @@ module _ {S M : Type 0} where
       (e, subst (λ k. Does k q (Links x y) e) (sym eb) before, subst (λ k. Does k p (Moves m) e) (sym ed) after)
 
   -- independence goes both ways
-  back-independent : (c : Config S M) (p q : Who) (A B : Act S M) → Independent c p A q B → Independent c q B p A
+  pub back-independent : (c : Config S M) (p q : Who) (A B : Act S M) → Independent c p A q B → Independent c q B p A
   back-independent c p q A B s = record { nodes = λ w i j. s.nodes w j i; ends = λ e i j. s.ends e j i; uses = λ e i j. s.uses e j i; fresh_a = s.fresh_b; fresh_b = s.fresh_a }
 
   -- a receipt or an identity leaves each end's partner with it as its own

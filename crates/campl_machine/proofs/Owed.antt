@@ -202,10 +202,22 @@ module _ {M : Type 0} where
             q (joined u v u2 v2 f) ∙ sym (off u v u2 v2 (joined x y x2 y2 f) e oe ∙ q f)
         | inr (inl (i, nex, ney, q)) ↦
             let oe : Off u v u2 v2 e = record { not_x = λ k. ou.not_y2 (i ∙ sym k); not_y = λ k. ov.not_y2 (i ∙ sym k); not_x2 = λ k. ou2.not_y2 (i ∙ sym k); not_y2 = λ k. ov2.not_y2 (i ∙ sym k) } in
-            cc (q (joined u v u2 v2 f), q f, off u v u2 v2 (joined x y x2 y2 f) e oe, off u v u2 v2 f x (record { not_x = ne x u ou.not_x; not_y = ne x v ov.not_x; not_x2 = ne x u2 ou2.not_x; not_y2 = ne x v2 ov2.not_x }), off u v u2 v2 f y2 (record { not_x = ne y2 u ou.not_y2; not_y = ne y2 v ov.not_y2; not_x2 = ne y2 u2 ou2.not_y2; not_y2 = ne y2 v2 ov2.not_y2 }))
+            cc (
+              q (joined u v u2 v2 f),
+              q f,
+              off u v u2 v2 (joined x y x2 y2 f) e oe,
+              off u v u2 v2 f x (record { not_x = ne x u ou.not_x; not_y = ne x v ov.not_x; not_x2 = ne x u2 ou2.not_x; not_y2 = ne x v2 ov2.not_x }),
+              off u v u2 v2 f y2 (record { not_x = ne y2 u ou.not_y2; not_y = ne y2 v ov.not_y2; not_x2 = ne y2 u2 ou2.not_y2; not_y2 = ne y2 v2 ov2.not_y2 }),
+            )
         | inr (inr (inl (i, nex, ney, ney2, q))) ↦
             let oe : Off u v u2 v2 e = record { not_x = λ k. ou.not_x2 (i ∙ sym k); not_y = λ k. ov.not_x2 (i ∙ sym k); not_x2 = λ k. ou2.not_x2 (i ∙ sym k); not_y2 = λ k. ov2.not_x2 (i ∙ sym k) } in
-            cc (q (joined u v u2 v2 f), q f, off u v u2 v2 (joined x y x2 y2 f) e oe, off u v u2 v2 f y (record { not_x = ne y u ou.not_y; not_y = ne y v ov.not_y; not_x2 = ne y u2 ou2.not_y; not_y2 = ne y v2 ov2.not_y }), off u v u2 v2 f x2 (record { not_x = ne x2 u ou.not_x2; not_y = ne x2 v ov.not_x2; not_x2 = ne x2 u2 ou2.not_x2; not_y2 = ne x2 v2 ov2.not_x2 }))
+            cc (
+              q (joined u v u2 v2 f),
+              q f,
+              off u v u2 v2 (joined x y x2 y2 f) e oe,
+              off u v u2 v2 f y (record { not_x = ne y u ou.not_y; not_y = ne y v ov.not_y; not_x2 = ne y u2 ou2.not_y; not_y2 = ne y v2 ov2.not_y }),
+              off u v u2 v2 f x2 (record { not_x = ne x2 u ou.not_x2; not_y = ne x2 v ov.not_x2; not_x2 = ne x2 u2 ou2.not_x2; not_y2 = ne x2 v2 ov2.not_x2 }),
+            )
         | inr (inr (inr (nex, ney, nex2, ney2, q))) ↦ elim (reads M u v u2 v2 e) [
           | inl (w, r) ↦ cc (q (joined u v u2 v2 f), r f, r (joined x y x2 y2 f))
           | inr (inl (i, neu, nev, r)) ↦ cc (q (joined u v u2 v2 f), r f, r (joined x y x2 y2 f), off x y x2 y2 f u ou, off x y x2 y2 f v2 ov2)
@@ -229,13 +241,21 @@ module _ {M : Type 0} where
             let left : joined x y u y2 f u ++ joined x y u y2 f v2 ≡ (f y ++ f u) ++ f v2 =
             cc (at_x2 x y u y2 f s.xu s.yu (ne u y2 s.uy2), off x y u y2 f v2 (record { not_x = s.xv2; not_y = s.yv2; not_x2 = s.uv2; not_y2 = s.y2v2 })) in
             let right : joined x y v2 y2 (joined u v x v2 f) v2 ≡ f y ++ (f u ++ f v2) =
-            cc (at_x2 x y v2 y2 (joined u v x v2 f) s.xv2 s.yv2 s.y2v2, off u v x v2 f y (record { not_x = ne y u s.yu; not_y = ne y v s.yv; not_x2 = s.xy; not_y2 = ne y v2 s.yv2 }), at_y2 u v x v2 f s.uv2 s.vv2) in
+            cc (
+              at_x2 x y v2 y2 (joined u v x v2 f) s.xv2 s.yv2 s.y2v2,
+              off u v x v2 f y (record { not_x = ne y u s.yu; not_y = ne y v s.yv; not_x2 = s.xy; not_y2 = ne y v2 s.yv2 }),
+              at_y2 u v x v2 f s.uv2 s.vv2,
+            ) in
             q (joined x y u y2 f) ∙ (left ∙ (append_assoc (f y) (f u) (f v2) ∙ (sym right ∙ ap (joined x y v2 y2 (joined u v x v2 f)) i)))
         | inr (inr (inl (i, neu, nev, nev2, q))) ↦
             let left : joined x y u y2 f v ++ joined x y u y2 f y2 ≡ f v ++ (f x ++ f y2) =
             cc (off x y u y2 f v (record { not_x = s.xv; not_y = s.yv; not_x2 = s.uv; not_y2 = s.y2v }), at_y2 x y u y2 f s.xy2 s.yy2) in
             let right : joined x y v2 y2 (joined u v x v2 f) y2 ≡ (f v ++ f x) ++ f y2 =
-            cc (at_y2 x y v2 y2 (joined u v x v2 f) s.xy2 s.yy2, at_x2 u v x v2 f (ne x u s.xu) (ne x v s.xv) (ne x v2 s.xv2), off u v x v2 f y2 (record { not_x = s.uy2; not_y = ne y2 v s.y2v; not_x2 = s.xy2; not_y2 = ne y2 v2 s.y2v2 })) in
+            cc (
+              at_y2 x y v2 y2 (joined u v x v2 f) s.xy2 s.yy2,
+              at_x2 u v x v2 f (ne x u s.xu) (ne x v s.xv) (ne x v2 s.xv2),
+              off u v x v2 f y2 (record { not_x = s.uy2; not_y = ne y2 v s.y2v; not_x2 = s.xy2; not_y2 = ne y2 v2 s.y2v2 }),
+            ) in
             q (joined x y u y2 f) ∙ (left ∙ (sym (append_assoc (f v) (f x) (f y2)) ∙ (sym right ∙ ap (joined x y v2 y2 (joined u v x v2 f)) i)))
         | inr (inr (inr (neu, nev, ney2, nev2, q))) ↦ elim (reads M x y u y2 e) [
           | inl (w, r) ↦ q (joined x y u y2 f) ∙ (r f ∙ sym (at_gone x y v2 y2 (joined u v x v2 f) e w))
