@@ -1,5 +1,5 @@
-pub mod Same
 pub mod Updates
+pub mod Same
 pub mod Ends
 pub mod Owed
 pub mod Wired

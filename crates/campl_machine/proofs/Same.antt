@@ -1,11 +1,7 @@
 -- The tests of names say whether the names are equal.
-use Rattle.std.proofs.Common.{◌≡◌, ℕ, Bool, true, false, [], ◌∷◌, ◌&&◌, eqb, refl, ap, eq-eqb, eqb-true, ap₂}
+use Rattle.std.proofs.Common.{◌≡◌, ℕ, true, [], ◌∷◌, ◌&&◌, eqb, refl, ap, eq-eqb, eqb-true, ap₂}
 use Rattle.campl_machine.specs.Names.{Birth, Path, Half, First, Second, End, Who, Process, Service, same_birth, same_path, same_half, same_end, same_who}
-
--- both halves of an `and` hold
-both : (a b : Bool) → a && b ≡ true → (a ≡ true) × (b ≡ true)
-both true b e = (refl, e)
-both false b e = absurd (cc e)
+use Rattle.campl_machine.proofs.Updates.{both}
 
 -- births that pass the test are equal
 pub same_birth-is : (a b : Birth) → same_birth a b ≡ true → a ≡ b
