@@ -1,0 +1,82 @@
+-- The form of a source that prints texts on one console, closes it and halts.
+use Rattle.std.specs.Prelude.{◌≡◌, ℕ, ◌<◌, ◌≤◌, ◌≢◌, ◌⊎◌, List, [], ◌∷◌, ◌++◌, map, length, slice_index, All, Contains, codes, chars, string_bytes}
+use Rattle.campl_cli.specs.Pieces.{Piece, Word, Quoted, Line, lines_of}
+use Rattle.campl_cli.specs.declared.reader.Printer.{Printer}
+
+-- the bytes of the console's name and of each text
+pub record Prints : Type 0 where
+  pub console : List ℕ
+  pub texts : List (List ℕ)
+
+-- `proc run :: | Console => where`
+abbrev pub heading : Line
+heading = record { column = 1; pieces = map Word (codes "proc" ∷ codes "run" ∷ codes "::" ∷ codes "|" ∷ codes "Console" ∷ codes "=>" ∷ codes "where" ∷ []) }
+
+-- `| NAME => -> do`
+abbrev pub row : List ℕ → ℕ → Line
+row name bar = record { column = bar; pieces = map Word (codes "|" ∷ name ∷ codes "=>" ∷ codes "->" ∷ codes "do" ∷ []) }
+
+-- `hput HANDLE on NAME`
+abbrev pub hput : List ℕ → List ℕ → ℕ → Line
+hput handle name column = record { column = column; pieces = map Word (codes "hput" ∷ handle ∷ codes "on" ∷ name ∷ []) }
+
+-- `put TEXT on NAME`
+abbrev pub put : List ℕ → List ℕ → ℕ → Line
+put text name column = record { column = column; pieces = Word (codes "put") ∷ Quoted text ∷ map Word (codes "on" ∷ name ∷ []) }
+
+-- `halt NAME`
+abbrev pub halt : List ℕ → ℕ → Line
+halt name column = record { column = column; pieces = map Word (codes "halt" ∷ name ∷ []) }
+
+-- two lines for each text
+abbrev pub prints : List (List ℕ) → List ℕ → ℕ → List Line
+prints [] name column = []
+prints (text ∷ texts) name column = hput (codes "ConsolePut") name column ∷ put text name column ∷ prints texts name column
+
+-- the commands: the prints, and the close and the halt
+abbrev pub commands : List (List ℕ) → List ℕ → ℕ → List Line
+commands texts name column = prints texts name column ++ hput (codes "ConsoleClose") name column ∷ halt name column ∷ []
+
+-- the whole source, with the row at the column `bar` and the commands at `column`
+abbrev pub spelled : Prints → ℕ → ℕ → List Line
+spelled p bar column = heading ∷ row p.console bar ∷ commands p.texts p.console column
+
+abbrev pub reserved : List (List ℕ)
+reserved =
+    codes "data" ∷ codes "protocol" ∷ codes "coprotocol" ∷ codes "fun" ∷ codes "proc" ∷ codes "where" ∷ codes "of" ∷ codes "do"
+    ∷ codes "race" ∷ codes "plug" ∷ codes "put" ∷ codes "get" ∷ codes "hput" ∷ codes "hcase" ∷ codes "split" ∷ codes "into" ∷ codes "fork"
+    ∷ codes "close" ∷ codes "halt" ∷ codes "on" ∷ codes "neg" ∷ codes "case" ∷ codes "if" ∷ codes "then" ∷ codes "else" ∷ codes "div"
+    ∷ codes "mod" ∷ codes "code" ∷ codes "char" ∷ codes "Int" ∷ codes "Char" ∷ codes "Bool" ∷ codes "True" ∷ codes "False" ∷ codes "Put"
+    ∷ codes "Get" ∷ codes "Neg" ∷ codes "TopBot" ∷ []
+
+-- `a` to `z`
+abbrev pub IsLowercase : ℕ → Type 0
+IsLowercase b = (97 ≤ b) × (b ≤ 122)
+
+-- an ASCII letter, a digit or `_`
+abbrev pub IsNameByte : ℕ → Type 0
+IsNameByte b = ((97 ≤ b) × (b ≤ 122)) ⊎ (((65 ≤ b) × (b ≤ 90)) ⊎ (((48 ≤ b) × (b ≤ 57)) ⊎ (b ≡ 95)))
+
+-- a name of 1 to 64 bytes that isn't reserved
+pub record IsName (name : List ℕ) : Type 0 where
+  pub begins : IsLowercase (slice_index name 0)
+  pub goes_on : All IsNameByte name
+  pub short : length name ≤ 64
+  pub free : Contains reserved name → ⊥
+
+-- at most 1,024 characters, none of them a backslash or below a space
+pub record IsText (text : List ℕ) : Type 0 where
+  pub short : length (chars text) ≤ 1024
+  pub plain : All (λ c. (32 ≤ c) × (c ≢ 92)) (chars text)
+
+pub record IsFine (p : Prints) : Type 0 where
+  pub console : IsName p.console
+  pub texts : All IsText p.texts
+  pub few : length p.texts ≤ 1000
+
+-- the source is of the form, and prints these texts
+abbrev pub IsFormOf : Prints → List ℕ → Type 0
+IsFormOf p source = (bar : ℕ) × (column : ℕ) × (lines_of source ≡ spelled p bar column) × (1 < bar) × (bar < column) × IsFine p
+
+abbrev pub prints_of : Printer → Prints
+prints_of printer = record { console = string_bytes printer.console; texts = map string_bytes printer.texts.items }

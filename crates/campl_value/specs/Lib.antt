@@ -1,0 +1,5 @@
+pub mod Tree
+pub mod View
+pub mod Falls
+pub mod Made
+pub mod Text
