@@ -20,8 +20,7 @@ use Rattle.campl_tree.specs.declared.expr.Expr.TheVariants as expr
 use Rattle.campl_tree.specs.declared.place.Ident.{Ident}
 use Rattle.campl_tree.specs.declared.place.Place.{Place}
 use Rattle.campl_tree.specs.declared.process.Action.TheVariants as action
-use Rattle.campl_tree.specs.declared.process.Action.{Action}
-use Rattle.campl_tree.specs.declared.process.Body.{Body, roll-Body}
+use Rattle.campl_tree.specs.declared.process.Body.{roll-Body}
 use Rattle.campl_tree.specs.declared.process.Last.TheVariants as last
 use Rattle.campl_tree.specs.declared.types.ChanType.TheVariants as chan
 
