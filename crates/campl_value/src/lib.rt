@@ -13,6 +13,8 @@
 //! ```
 #![tactic(auto)]
 
+pub mod compare;
+pub mod list;
 pub mod message;
 pub mod text;
 pub mod value;
