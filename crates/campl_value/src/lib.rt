@@ -21,3 +21,6 @@ pub mod value;
 
 pub use message::Message;
 pub use value::{Look, MAX_DEPTH, Made, Value};
+
+#[cfg(test)]
+mod tests;
