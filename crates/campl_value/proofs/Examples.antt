@@ -1,7 +1,7 @@
 -- What the definitions say of small values.
-use Rattle.std.proofs.Common.{◌≡◌, refl, Bool, true, false, [], ◌∷◌, Some, None}
+use Rattle.std.proofs.Common.{◌≡◌, refl, true, false, [], ◌∷◌, Some, None}
 use Rattle.std.specs.Prelude.{pos}
-use Rattle.std.specs.declared.cmp.Ordering.TheVariants.{Less, Equal, Greater}
+use Rattle.std.specs.declared.cmp.Ordering.TheVariants.{Less, Greater}
 use Rattle.campl_value.specs.Tree.{Int, Char, Truth, Nil, Cell, Pair, built, depth_of}
 use Rattle.campl_value.specs.List.{appended}
 use Rattle.campl_value.specs.Text.{text_of, chars_of}

@@ -3,7 +3,7 @@ use Rattle.std.specs.Prelude.{Option, Some, None}
 use Rattle.std.specs.declared.cmp.Ordering.{Ordering}
 use Rattle.std.specs.declared.cmp.Ordering.TheVariants.{Less, Equal, Greater}
 use Rattle.std.specs.Ordering.{nat_cmp, int_cmp, bool_cmp, partial_ordering_then}
-use Rattle.campl_value.specs.Tree.{Tree, Int, Char, Truth, Nil, Cell, Pair, Built}
+use Rattle.campl_value.specs.Tree.{Tree, Int, Char, Truth, Nil, Cell}
 
 -- Texts go by their first characters that differ, a prefix before what is longer. Nothing behind is looked at,
 -- and None comes where what is looked at isn't two texts.

@@ -1,6 +1,6 @@
 -- Lists, made of cells that end in the empty list.
 use Rattle.std.specs.Prelude.{List, [], ◌∷◌, Option, Some, None, option_map}
-use Rattle.campl_value.specs.Tree.{Tree, Int, Char, Truth, Nil, Cell, Pair, Built}
+use Rattle.campl_value.specs.Tree.{Tree, Nil, Cell}
 
 -- the items of a list, and None of any other value
 abbrev pub items_of : Tree → Option (List Tree)

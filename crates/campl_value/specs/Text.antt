@@ -3,7 +3,7 @@ use Rattle.std.specs.Prelude.{◌≡◌, refl, ℕ, List, [], ◌∷◌, Option,
 use Rattle.std.proofs.Common.{ap}
 use Rattle.campl_value.specs.declared.text.Front.{Front}
 use Rattle.campl_value.specs.declared.text.Front.TheVariants as F
-use Rattle.campl_value.specs.Tree.{Tree, Int, Char, Truth, Nil, Cell, Pair, Built}
+use Rattle.campl_value.specs.Tree.{Tree, Char, Nil, Cell}
 
 -- the list of these characters
 abbrev pub text_of : List ℕ → Tree

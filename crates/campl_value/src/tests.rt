@@ -48,7 +48,10 @@ fn depths_are_counted_from_one(rt: HostRuntime) -> Result<(), Fail> {
     let pair = is(&rt, Value::pair(alloc, Value::int(1), Value::nil())?);
     assert_eq!(rt; pair.depth(), 2);
     assert_eq!(rt; text(&rt, alloc, "ab")?.depth(), 3);
-    assert_eq!(rt; is(&rt, Value::construct(alloc, 4, Vec::new(alloc))?).depth(), 1);
+    assert_eq!(rt;
+        is(&rt, Value::construct(alloc, 4, Vec::new(alloc))?).depth(),
+        1
+    );
     assert_eq!(rt; is(&rt, one_part(alloc, pair)?).depth(), 3);
     Ok(())
 }
@@ -59,8 +62,14 @@ fn each_constructor_reaches_the_limit(rt: HostRuntime) -> Result<(), Fail> {
     let below = list(&rt, alloc, 4094)?;
     let most = list(&rt, alloc, 4095)?;
     assert_eq!(rt; most.depth(), 4096);
-    assert_eq!(rt; is(&rt, Value::cell(alloc, below.copy()?, Value::nil())?).depth(), 4096);
-    assert_eq!(rt; is(&rt, Value::pair(alloc, Value::nil(), below.copy()?)?).depth(), 4096);
+    assert_eq!(rt;
+        is(&rt, Value::cell(alloc, below.copy()?, Value::nil())?).depth(),
+        4096
+    );
+    assert_eq!(rt;
+        is(&rt, Value::pair(alloc, Value::nil(), below.copy()?)?).depth(),
+        4096
+    );
     assert_eq!(rt; is(&rt, one_part(alloc, below)?).depth(), 4096);
     assert!(rt; is_too_deep(&Value::cell(alloc, Value::nil(), most.copy()?)?));
     assert!(rt; is_too_deep(&Value::cell(alloc, most.copy()?, Value::nil())?));
@@ -110,9 +119,18 @@ fn texts_are_appended_in_order(rt: HostRuntime) -> Result<(), Fail> {
 #[test]
 fn values_are_compared(rt: HostRuntime) -> Result<(), Fail> {
     let alloc = rt.alloc();
-    assert_eq!(rt; Value::int(-2).compare(&Value::int(1)), Some(Ordering::Less));
-    assert_eq!(rt; Value::character('b').compare(&Value::character('B')), Some(Ordering::Greater));
-    assert_eq!(rt; Value::truth(false).compare(&Value::truth(true)), Some(Ordering::Less));
+    assert_eq!(rt;
+        Value::int(-2).compare(&Value::int(1)),
+        Some(Ordering::Less)
+    );
+    assert_eq!(rt;
+        Value::character('b').compare(&Value::character('B')),
+        Some(Ordering::Greater)
+    );
+    assert_eq!(rt;
+        Value::truth(false).compare(&Value::truth(true)),
+        Some(Ordering::Less)
+    );
     assert_eq!(rt; Value::int(1).compare(&Value::truth(true)), None);
     let less = [("", "a"), ("a", "ab"), ("ab", "b"), ("Z", "a"), ("z", "é")];
     for (a, b) in less {

@@ -1,5 +1,5 @@
 // A value: a tree with its depth, whose parts are shared.
-ghost use Rattle.std.specs.Prelude.{◌≡◌, ℕ, ◌+◌, ◌<◌, ◌≤◌, IfOk, [], ◌∷◌, max};
+ghost use Rattle.std.specs.Prelude.{◌≡◌, ◌+◌, ◌<◌, ◌≤◌, IfOk, SomeIff};
 ghost use Rattle.campl_value.specs.Tree.{Tree, Int, Char, Truth, Nil, Cell, Pair, built, depth_of, trees_of, deepest_of};
 ghost use Rattle.campl_value.specs.Made.{IsMade, Looks};
 
@@ -164,13 +164,12 @@ impl Value {
     pub fn cell(alloc: Global, head: Value, tail: Value) -> Result<Made, AllocError>
         ensures { IfOk result (λ made. IsMade (Cell head tail) made) }
     {
-        let below = head.depth().max(tail.depth());
-        if below >= MAX_DEPTH {
+        let Some(depth) = depth_above(head.depth().max(tail.depth())) else {
             return Ok(Made::TooDeep);
-        }
+        };
         let parts = Arc::new(alloc, (head, tail))?;
         Ok(Made::Is(Value {
-            depth: 1 + below,
+            depth,
             node: Node::Cell(parts),
         }))
     }
@@ -179,13 +178,12 @@ impl Value {
     pub fn pair(alloc: Global, first: Value, second: Value) -> Result<Made, AllocError>
         ensures { IfOk result (λ made. IsMade (Pair first second) made) }
     {
-        let below = first.depth().max(second.depth());
-        if below >= MAX_DEPTH {
+        let Some(depth) = depth_above(first.depth().max(second.depth())) else {
             return Ok(Made::TooDeep);
-        }
+        };
         let parts = Arc::new(alloc, (first, second))?;
         Ok(Made::Is(Value {
-            depth: 1 + below,
+            depth,
             node: Node::Pair(parts),
         }))
     }
@@ -195,15 +193,25 @@ impl Value {
     pub fn construct(alloc: Global, constructor: u32, parts: Vec<Value>) -> Result<Made, AllocError>
         ensures { IfOk result (λ made. IsMade (built constructor parts.items) made) }
     {
-        let below = deepest(parts.as_slice());
-        if below >= MAX_DEPTH {
+        let Some(depth) = depth_above(deepest(parts.as_slice())) else {
             return Ok(Made::TooDeep);
-        }
+        };
         let parts = Arc::new(alloc, parts)?;
         Ok(Made::Is(Value {
-            depth: 1 + below,
+            depth,
             node: Node::Built(constructor, parts),
         }))
+    }
+}
+
+// The depth of a value whose deepest part has the depth `below`, unless that is too deep.
+fn depth_above(below: u32) -> Option<u32>
+    ensures { SomeIff result (below < MAX_DEPTH) (below + 1) }
+{
+    if below < MAX_DEPTH {
+        Some(below + 1)
+    } else {
+        None
     }
 }
 
