@@ -2,6 +2,7 @@
 use Rattle.std.proofs.Common.{◌≡◌, refl, true, false, [], ◌∷◌, Some, None}
 use Rattle.std.specs.Prelude.{pos}
 use Rattle.std.specs.declared.cmp.Ordering.TheVariants.{Less, Greater}
+use Rattle.campl_value.specs.declared.value.TheConstants.{MAX_DEPTH}
 use Rattle.campl_value.specs.Tree.{Int, Char, Truth, Nil, Cell, Pair, built, depth_of}
 use Rattle.campl_value.specs.List.{appended}
 use Rattle.campl_value.specs.Text.{text_of, chars_of}
@@ -46,3 +47,7 @@ false_first = refl
 
 two_types : compared (Truth false) (Int (pos 1)) ≡ None
 two_types = refl
+
+-- how deep values go
+limit : MAX_DEPTH ≡ 4096
+limit = refl

@@ -37,16 +37,16 @@ impl Value {
     }
 }
 
-/// What a text begins with.
+// What a text begins with.
 #[derive(Drop)]
 pub enum Front<'a> {
     End,
-    /// A character, and the text behind it.
+    // A character, and the text behind it.
     Letter(char, &'a Value),
     NoText,
 }
 
-/// What `text` begins with.
+// What `text` begins with.
 pub fn front_of(text: &Value) -> Front<'_>
     ensures { IsFront text.now result }
 {
