@@ -9,7 +9,9 @@ use Rattle.campl_value.specs.List.{in_front}
 use Rattle.campl_value.specs.Text.{text_of}
 use Rattle.campl_value.specs.Compare.{compared, texts_compared}
 
-pub in_front-last : (items : List Tree) (item behind : Tree) → in_front (items ++ item ∷ []) behind ≡ in_front items (Cell item behind)
+-- the last item stands right in front of what is behind
+pub in_front-last : (items : List Tree) (item behind : Tree)
+    → in_front (items ++ item ∷ []) behind ≡ in_front items (Cell item behind)
 in_front-last [] item behind = refl
 in_front-last (first ∷ items) item behind = ap (Cell first) (in_front-last items item behind)
 
@@ -19,21 +21,26 @@ deeper_in_front [] behind = omega arith
 deeper_in_front (item ∷ items) behind = omega (arith, deeper_in_front items behind)
 
 -- taking the last item from the items in front, and putting it in front of the rest
-pub last_to_rest : (all items : List Tree) (item behind whole : Tree) → all ≡ items ++ item ∷ [] → in_front all behind ≡ whole → in_front items (Cell item behind) ≡ whole
-last_to_rest all items item behind whole e h = sym (in_front-last items item behind) ∙ ap (λ (xs : List Tree). in_front xs behind) (sym e) ∙ h
+pub last_to_rest : (all items : List Tree) (item behind whole : Tree)
+    → all ≡ items ++ item ∷ [] → in_front all behind ≡ whole → in_front items (Cell item behind) ≡ whole
+last_to_rest all items item behind whole e h =
+    sym (in_front-last items item behind) ∙ ap (λ (xs : List Tree). in_front xs behind) (sym e) ∙ h
 
 -- two texts go by the order of their lists of characters
-pub texts_compared-text : (xs ys : List ℕ) → texts_compared (text_of xs) (text_of ys) ≡ Some (slice_cmp nat_cmp xs ys)
+pub texts_compared-text : (xs ys : List ℕ)
+    → texts_compared (text_of xs) (text_of ys) ≡ Some (slice_cmp nat_cmp xs ys)
 texts_compared-text [] [] = refl
 texts_compared-text [] (y ∷ ys) = refl
 texts_compared-text (x ∷ xs) [] = refl
-texts_compared-text (x ∷ xs) (y ∷ ys) = rw (texts_compared-text xs ys) (ordering_cases (nat_cmp x y) (slice_cmp nat_cmp xs ys))
+texts_compared-text (x ∷ xs) (y ∷ ys) =
+    rw (texts_compared-text xs ys) (ordering_cases (nat_cmp x y) (slice_cmp nat_cmp xs ys))
   where
     ordering_cases : (o p : Ordering) → partial_ordering_then (Some o) (Some p) ≡ Some (ordering_then o p)
     ordering_cases Less p = refl
     ordering_cases Equal p = refl
     ordering_cases Greater p = refl
 
+-- the same where the types aren't known
 pub compared-text : (xs ys : List ℕ) → compared (text_of xs) (text_of ys) ≡ Some (slice_cmp nat_cmp xs ys)
 compared-text [] [] = refl
 compared-text [] (y ∷ ys) = refl
@@ -41,5 +48,7 @@ compared-text (x ∷ xs) [] = refl
 compared-text (x ∷ xs) (y ∷ ys) = texts_compared-text (x ∷ xs) (y ∷ ys)
 
 -- an answer of the order of two values, where they are texts
-pub order_of_texts : (order : Option Ordering) (left right : Tree) → order ≡ compared left right → (xs ys : List ℕ) → left ≡ text_of xs → right ≡ text_of ys → order ≡ Some (slice_cmp nat_cmp xs ys)
-order_of_texts order left right e xs ys a b = e ∙ ap (λ (t : Tree). compared t right) a ∙ ap (compared (text_of xs)) b ∙ compared-text xs ys
+pub order_of_texts : (order : Option Ordering) (left right : Tree) → order ≡ compared left right
+    → (xs ys : List ℕ) → left ≡ text_of xs → right ≡ text_of ys → order ≡ Some (slice_cmp nat_cmp xs ys)
+order_of_texts order left right e xs ys a b =
+    e ∙ ap (λ (t : Tree). compared t right) a ∙ ap (compared (text_of xs)) b ∙ compared-text xs ys

@@ -11,12 +11,13 @@ use std::cmp::Ordering;
 
 impl Value {
     /// The order of this and `other` where both are integers, characters, truths or texts: `false`
-    /// before `true`, and texts by the scalar values of their characters, a prefix first. `None` where
-    /// what is looked at isn't two of one comparable type. It looks at the characters of two texts up
-    /// to the first that differ.
+    /// before `true`, and texts by the scalar values of their characters, a prefix first. Two texts are
+    /// looked at up to the first characters that differ. `None` where what is looked at isn't two
+    /// values of one of these types. It takes no memory.
     pub fn compare(&self, other: &Value) -> Option<Ordering>
         ensures value { result ≡ compared self.now other.now }
-        ensures texts { (xs ys : List ℕ) → self.now ≡ text_of xs → other.now ≡ text_of ys → result ≡ Some (slice_cmp nat_cmp xs ys) }
+        ensures texts { (xs ys : List ℕ) → self.now ≡ text_of xs → other.now ≡ text_of ys
+            → result ≡ Some (slice_cmp nat_cmp xs ys) }
     {
         match (self.look(), other.look()) {
             (Look::Int(a), Look::Int(b)) => Some(a.cmp(&b)),

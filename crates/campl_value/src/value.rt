@@ -10,7 +10,8 @@ use std::sync::Arc;
 /// The greatest depth of a value. Making a deeper one answers [`Made::TooDeep`].
 pub const MAX_DEPTH: u32 = 4096;
 
-/// A value that a program computes with. It is made once, never changed, and may be read from any thread.
+/// A value that a program computes with. It never changes, may be used from any thread, and is dropped
+/// within 2 MiB of stack however deep it is.
 #[cycle(value)]
 #[derive(Drop)]
 pub struct Value {
@@ -160,7 +161,7 @@ impl Value {
         })
     }
 
-    /// The list of `head` before the items of `tail`. An error means that memory is out.
+    /// A cell: the list of `head` and behind it `tail`. An error means that memory is out, and drops both.
     pub fn cell(alloc: Global, head: Value, tail: Value) -> Result<Made, AllocError>
         ensures { IfOk result (λ made. IsMade (Cell head tail) made) }
     {
@@ -174,7 +175,7 @@ impl Value {
         }))
     }
 
-    /// The pair of `first` and `second`. An error means that memory is out.
+    /// The pair of `first` and `second`. An error means that memory is out, and drops both.
     pub fn pair(alloc: Global, first: Value, second: Value) -> Result<Made, AllocError>
         ensures { IfOk result (λ made. IsMade (Pair first second) made) }
     {
@@ -189,7 +190,7 @@ impl Value {
     }
 
     /// The value of the constructor of this number with these parts, in order. An error means that
-    /// memory is out.
+    /// memory is out, and drops the parts.
     pub fn construct(alloc: Global, constructor: u32, parts: Vec<Value>) -> Result<Made, AllocError>
         ensures { IfOk result (λ made. IsMade (built constructor parts.items) made) }
     {
