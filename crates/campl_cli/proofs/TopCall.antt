@@ -1,9 +1,10 @@
 -- The four ways in which the command ends.
-use Rattle.std.proofs.Common.{◌≡◌, ◌<◌, ℕ, List, Option, Some, ◌⊎◌, inl, inr, ap, sym, subst, ◌∙◌, map, refl, length, get_or}
+use Rattle.std.proofs.Common.{◌≡◌, ◌<◌, ℕ, List, [], ◌∷◌, Option, Some, ◌⊎◌, inl, inr, ap, ap₂, sym, subst, ◌∙◌, map, refl, length, get_or}
 use Rattle.std.specs.Prelude.{All, chars, string_bytes}
 use Rattle.std.proofs.lemmas.List.{length-map}
 use Rattle.std.proofs.Math.ListN.{get_or-map}
 use Rattle.campl_meaning.specs.Reductions.{Configuration}
+use Rattle.campl_meaning.specs.States.{Transcript}
 use Rattle.campl_meaning.specs.Ends as e
 use Rattle.campl_meaning.specs.Output.{output_of}
 use Rattle.campl_config.specs.Journal.{plain_entries, weight_of}
@@ -36,10 +37,30 @@ module _ (words : List (List ℕ)) (files : Files) (out err : Stream) (report : 
     }
 
     output_is : string_bytes performance.output ≡ printed p report comes.last
-    output_is = done.output ∙ ?
+    output_is =
+        done.output ∙ ap₂ (λ (transcript : Transcript) (steps : ℕ). output_of ((chars p.console, transcript) ∷ []) e.Finished [] steps) (sym comes.transcript) (sym told.steps)
 
   pub answers_run : (p : Prints) (performance : Performance) → IsAccepted words files p → IsPerformance p performance → IsPrinted performance out err report → IsAnswer words files out err report
-  answers_run p performance accepted done told = ?
+  answers_run p performance accepted done told = elim told.written [
+    | inl written ↦ inl (record {
+      status = written.0;
+      source = p;
+      accepted = accepted;
+      last = (comes p performance done told).last;
+      run = has_run p performance done told;
+      output = subst (λ bytes. Had out bytes) (output_is p performance done told) written.1;
+      silent = written.2;
+    })
+    | inr failed ↦ inr (inl (record {
+      status = failed.0;
+      source = p;
+      accepted = accepted;
+      last = (comes p performance done told).last;
+      run = has_run p performance done told;
+      output = subst (λ bytes. FailedIn out bytes) (output_is p performance done told) failed.1;
+      told = failed.2;
+    }))
+  ]
 
   -- what was refused and told, or couldn't be
   told_answer : (refusal : Refusal) → IsDue words files refusal → HadNothing out → IsTold refusal err report → IsAnswer words files out err report

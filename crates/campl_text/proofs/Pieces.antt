@@ -2,7 +2,7 @@
 use Rattle.std.proofs.Common.{◌≡◌, ℕ, ◌+◌, ◌≤◌, List, ◌++◌, take, drop, length, refl, sym, ◌∙◌, ap, append_assoc}
 use Rattle.std.specs.Prelude.{Option, None, Some, IfSome}
 use Rattle.std.proofs.Math.Seq.{take-add}
-use Rattle.std.proofs.lemmas.List.{take_all}
+use Rattle.std.proofs.lemmas.List.{take_all, length-take-le}
 use Rattle.std.specs.Io.KnownBytes.{Appends}
 use Rattle.campl_text.specs.Given.{IsGiven}
 
@@ -21,6 +21,10 @@ front_is_all front file n e h = e ∙ take_all n file h
 -- a front of a file, and then the next n bytes of it, are a front of it
 pub front_more : (front more into file : List ℕ) (at n : ℕ) → front ≡ take at file → more ≡ take n into → take n into ≡ take n (drop at file) → front ++ more ≡ take (at + n) file
 front_more front more into file at n e m h = ap (λ xs. xs ++ more) e ∙ ap (λ xs. take at file ++ xs) (m ∙ h) ∙ sym (take-add at n file)
+
+-- a list that grew by the first n of the bytes grew by n
+pub length_grown : (was now n : ℕ) (bytes : List ℕ) → now ≡ was + length (take n bytes) → n ≤ length bytes → now ≡ was + n
+length_grown was now n bytes e h = rw (sym (length-take-le n bytes h)) e
 
 -- the same, over a shelf that may tell its file: the read at `at` gave n bytes, and len bytes are then read
 pub front_read : (was now : Option (List ℕ)) (front into news : List ℕ) (at place n len : ℕ) → now ≡ was → IfSome was (λ file. front ≡ take at file) → IfSome now (λ file. IsGiven file place n into) → news ≡ front ++ take n into → place ≡ at → len ≡ at + n → IfSome was (λ file. news ≡ take len file)

@@ -27,3 +27,6 @@ pub use reading::{Failed, Shelf, TextFault, read_text};
 pub use std_sink::StdSink;
 pub use utf8::{TEXT_BYTES_MAX, Text};
 pub use writing::{Sink, SinkFault, write_all_of};
+
+#[cfg(test)]
+mod tests;

@@ -319,5 +319,15 @@ pub view_part-roll : (at : Place) (ins outs : List Ident) (body : Body) → view
 unfolding view_last view_body view_branch view_case_row view_hcase_row view_part
 view_part-roll at ins outs body = fold-roll-Part b.Body b.Body (Ident × b.Body) (p.Pattern × b.Body) (Ident × b.Body) (b.Header × b.Body) last_layer body_layer branch_layer case_row_layer hcase_row_layer part_layer (record { place = at; inputs = ins; outputs = outs; body = body })
 
--- all of them
-pub ruleset views = (view_seq-Int, view_seq-Char, view_seq-Bool, view_seq-List, view_seq-Pair, view_seq-Named, view_seq-Variable, view_chan-Put, view_chan-Get, view_chan-Tensor, view_chan-Par, view_chan-TopBot, view_chan-Neg, view_chan-Named, view_pattern-Wildcard, view_pattern-Variable, view_pattern-Number, view_pattern-Negative, view_pattern-Character, view_pattern-Text, view_pattern-True, view_pattern-False, view_pattern-Constructor, view_pattern-List, view_pattern-Pair, view_pattern-Cons, view_expr-If, view_expr-Case, view_expr-Or, view_expr-And, view_expr-Compare, view_expr-Cons, view_expr-Append, view_expr-Calculate, view_expr-Negate, view_expr-Number, view_expr-Character, view_expr-Text, view_expr-True, view_expr-False, view_expr-Variable, view_expr-Call, view_expr-CodeOf, view_expr-CharOf, view_expr-Constructor, view_expr-List, view_expr-Pair, view_expr_row-out, view_expr_row-roll, view_last-Halt, view_last-Hcase, view_last-Fork, view_last-Plug, view_last-Race, view_last-Case, view_last-Identity, view_last-Call, view_body-out, view_body-roll, view_branch-out, view_branch-roll, view_case_row-out, view_case_row-roll, view_hcase_row-out, view_hcase_row-roll, view_part-out, view_part-roll)
+-- those of one file of src/, and all of them
+pub ruleset seq_views = (view_seq-Int, view_seq-Char, view_seq-Bool, view_seq-List, view_seq-Pair, view_seq-Named, view_seq-Variable)
+
+pub ruleset chan_views = (view_chan-Put, view_chan-Get, view_chan-Tensor, view_chan-Par, view_chan-TopBot, view_chan-Neg, view_chan-Named)
+
+pub ruleset pattern_views = (view_pattern-Wildcard, view_pattern-Variable, view_pattern-Number, view_pattern-Negative, view_pattern-Character, view_pattern-Text, view_pattern-True, view_pattern-False, view_pattern-Constructor, view_pattern-List, view_pattern-Pair, view_pattern-Cons)
+
+pub ruleset expr_views = (view_expr-If, view_expr-Case, view_expr-Or, view_expr-And, view_expr-Compare, view_expr-Cons, view_expr-Append, view_expr-Calculate, view_expr-Negate, view_expr-Number, view_expr-Character, view_expr-Text, view_expr-True, view_expr-False, view_expr-Variable, view_expr-Call, view_expr-CodeOf, view_expr-CharOf, view_expr-Constructor, view_expr-List, view_expr-Pair, view_expr_row-out, view_expr_row-roll)
+
+pub ruleset process_views = (view_last-Halt, view_last-Hcase, view_last-Fork, view_last-Plug, view_last-Race, view_last-Case, view_last-Identity, view_last-Call, view_body-out, view_body-roll, view_branch-out, view_branch-roll, view_case_row-out, view_case_row-roll, view_hcase_row-out, view_hcase_row-roll, view_part-out, view_part-roll)
+
+pub ruleset views = (seq_views, chan_views, pattern_views, expr_views, process_views)

@@ -90,7 +90,7 @@ pub struct ExprRow {
 
 impl Expr {
     /// The place of the expression's first token.
-    #[tactic(auto, using(crate::proofs::Views::views))]
+    #[tactic(auto, using(crate::proofs::Views::expr_views))]
     pub fn place(&self) -> Place
         ensures { result ≡ expr_place (view_expr self.now) }
     {

@@ -33,7 +33,7 @@ pub enum Pattern {
 
 impl Pattern {
     /// The place of the pattern's first token.
-    #[tactic(auto, using(crate::proofs::Views::views))]
+    #[tactic(auto, using(crate::proofs::Views::pattern_views))]
     pub fn place(&self) -> Place
         ensures { result ≡ pattern_place (view_pattern self.now) }
     {

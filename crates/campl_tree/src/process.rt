@@ -127,7 +127,7 @@ impl Action {
 
 impl Last {
     /// The place of the command's first token.
-    #[tactic(auto, using(crate::proofs::Views::views))]
+    #[tactic(auto, using(crate::proofs::Views::process_views))]
     pub fn place(&self) -> Place
         ensures { result ≡ command_place (view_last self.now) }
     {
