@@ -16,5 +16,6 @@ pub use command::campl;
 pub use gate::{Gate, OpenGate};
 pub use reader::{Printer, read_printer};
 pub use refusal::{Refusal, SOURCE_LIMIT};
+pub use refuse::refuse;
 pub use report::{Ended, Report};
 pub use words::file_of;
