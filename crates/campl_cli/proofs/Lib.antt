@@ -1,1 +1,4 @@
 pub mod Examples
+pub mod Runs
+pub mod Lines
+pub mod Commands

@@ -2,6 +2,8 @@
 -- next quote of its line or to the line's end, and every other piece to the next space or to the line's end.
 use Rattle.std.specs.Prelude.{ℕ, ◌+◌, Bool, true, false, ◌==◌, if◌then◌else◌, List, [], ◌∷◌, ◌++◌, map, filter}
 use Rattle.std.specs.List.{slice_split, prefix_len}
+use Rattle.campl_cli.specs.declared.reader.pieces.Piece as piece
+use Rattle.campl_cli.specs.declared.reader.pieces.Piece.TheVariants as shown
 
 -- a word; what stands between two quotes; what follows a quote that the line doesn't close
 pub data Piece : Type 0 where
@@ -13,6 +15,12 @@ pub data Piece : Type 0 where
 pub record Line : Type 0 where
   pub column : ℕ
   pub pieces : List Piece
+
+-- the piece that a value of the program stands for
+abbrev pub piece_of : piece.Piece → Piece
+piece_of (shown.Word text) = Word text.now
+piece_of (shown.Quoted text) = Quoted text.now
+piece_of (shown.Unclosed text) = Unclosed text.now
 
 -- where a byte of a line stands: between pieces, behind the bytes of a word, or behind a quote and the bytes after it
 pub data Place : Type 0 where

@@ -1,0 +1,4 @@
+use Rattle.campl_cli.proofs.reader.fine.is_reserved.Goals as goal
+
+pub returns : goal.returns
+returns c = ?

@@ -1,0 +1,10 @@
+use Rattle.std.proofs.Common.{◌≡◌, ◌+◌, length, arith}
+use Rattle.std.specs.List.{prefix_len}
+use Rattle.campl_cli.specs.Pieces.{is_space}
+use Rattle.campl_cli.proofs.Runs.{spaces_before}
+use Rattle.campl_cli.proofs.reader.pieces.column_of.Goals as goal
+
+pub returns : goal.returns
+returns c =
+    let e = spaces_before c.args.line.now c.trim_start_matches.result.now c.trim_start_matches.ensures.matches in
+    omega (arith, e)
