@@ -2,8 +2,8 @@
 use Rattle.std.proofs.Common.{◌≡◌, ℕ, suc, ◌+◌, ◌-◌, ◌<◌, ◌≤◌, List, [], ◌∷◌, ◌++◌, length, get_or, take, drop, map, refl, sym, ◌∙◌, ap, subst, arith, append_assoc, lit<}
 use denote.Ref.{Bor}
 use Rattle.std.specs.Prelude.{codes, String, string_bytes}
-use Rattle.campl_cli.specs.Pieces.{Piece, Word, Quoted, Unclosed, Line, line_of}
-use Rattle.campl_cli.specs.Form.{Prints, heading, row, hput, put, halt, IsPrint, commands, spelled, IsSpelling}
+use Rattle.campl_cli.specs.Pieces.{Piece, Word, Quoted, Unclosed, Line, line_of, lines_of}
+use Rattle.campl_cli.specs.Form.{Prints, heading, row, hput, put, halt, IsPrint, commands, spelled, IsSpelling, IsFormOf}
 use Rattle.campl_cli.proofs.Runs.{append-nil}
 
 -- the bytes of a piece
@@ -16,17 +16,13 @@ bytes_of (Unclosed text) = text
 second : Line → List ℕ
 second line = bytes_of (get_or line.pieces 1 (Word []))
 
-pub first_column : List Line → ℕ
-first_column lines = (get_or lines 0 heading).column
-
 length-commands : (texts : List (List ℕ)) (name : List ℕ) (column : ℕ) → 2 ≤ length (commands texts name column)
 length-commands [] name column = omega arith
 length-commands (text ∷ texts) name column = omega (arith, length-commands texts name column)
 
-pub column-commands : (texts : List (List ℕ)) (name : List ℕ) (column : ℕ) → first_column (commands texts name column) ≡ column
-unfolding first_column
-column-commands [] name column = refl
-column-commands (text ∷ texts) name column = refl
+first_of_commands : (line : Line) (lines : List Line) (texts : List (List ℕ)) (name : List ℕ) (column : ℕ) → (line ∷ lines) ≡ commands texts name column → line.column ≡ column
+first_of_commands line lines [] name column e = ap (λ ls. (get_or ls 0 heading).column) e
+first_of_commands line lines (text ∷ texts) name column e = ap (λ ls. (get_or ls 0 heading).column) e
 
 same_text : (text other : List ℕ) (name : List ℕ) (column : ℕ) (name' : List ℕ) (column' : ℕ) → put text name column ≡ put other name' column' → text ≡ other
 unfolding second bytes_of
@@ -117,3 +113,81 @@ map-push f (y ∷ ys) x = ap (λ t. f y ∷ t) (map-push f ys x)
 pub bytes-push : {Z : Type 0} (old new : List (String Z)) (s : String Z) (text : List ℕ) → new ≡ old ++ s ∷ [] → string_bytes s ≡ text
     → map string_bytes new ≡ map string_bytes old ++ text ∷ []
 bytes-push old new s text e is = ap (map string_bytes) e ∙ map-push string_bytes old s ∙ ap (λ t. map string_bytes old ++ t ∷ []) is
+
+same_name : (name other : List ℕ) (bar bar' : ℕ) → row name bar ≡ row other bar' → name ≡ other
+unfolding second bytes_of
+same_name name other bar bar' e = ap second e
+
+abbrev text_lines : List (Bor (List ℕ)) → List Line
+text_lines texts = map (λ line. line_of line.now) texts
+
+-- lines whose second is no row spell nothing
+pub no_row : (xs : List (Bor (List ℕ))) (d : Bor (List ℕ)) → 2 ≤ length xs → ((name : List ℕ) (bar : ℕ) → line_of (get_or xs 1 d).now ≡ row name bar → ⊥)
+    → (p : Prints) → IsSpelling p (text_lines xs) → ⊥
+no_row [] d two bad p s = absurd (omega (arith, two))
+no_row (x ∷ []) d two bad p s = absurd (omega (arith, two))
+no_row (x ∷ y ∷ zs) d two bad p (bar, column, e, low, high) = bad p.console bar (ap (λ ls. get_or ls 1 heading) e)
+
+-- nor do two lines
+pub no_commands : (xs : List (Bor (List ℕ))) → 2 ≤ length xs → length (take (length xs - 2) (drop 2 xs)) < 1 → (p : Prints) → IsSpelling p (text_lines xs) → ⊥
+no_commands [] two short p s = absurd (omega (arith, two))
+no_commands (x ∷ []) two short p s = absurd (omega (arith, two))
+no_commands (x ∷ y ∷ []) two short p (bar, column, e, low, high) =
+    let l : 2 ≡ suc (suc (length (commands p.texts p.console column))) = ap length e in
+    let m : 2 ≤ length (commands p.texts p.console column) = length-commands p.texts p.console column in
+    absurd (omega (arith, l, m))
+no_commands (x ∷ y ∷ z ∷ zs) two short p s = let none : length (z ∷ zs) < 1 = subst (λ rest. length rest < 1) (take_rest (z ∷ zs)) short in absurd (omega (arith, none))
+
+-- what the spelling of lines says of the first, the second and the rest
+pub record Parts (p : Prints) (xs : List (Bor (List ℕ))) (d : Bor (List ℕ)) : Type 0 where
+  pub first : line_of (get_or xs 0 d).now ≡ heading
+  pub low : 1 < (line_of (get_or xs 1 d).now).column
+  pub high : (line_of (get_or xs 1 d).now).column < (line_of (get_or (take (length xs - 2) (drop 2 xs)) 0 d).now).column
+  pub name : (name : List ℕ) (bar : ℕ) → line_of (get_or xs 1 d).now ≡ row name bar
+      → text_lines (take (length xs - 2) (drop 2 xs)) ≡ commands p.texts name (line_of (get_or (take (length xs - 2) (drop 2 xs)) 0 d).now).column
+
+module _ (p : Prints) (x y z : Bor (List ℕ)) (zs : List (Bor (List ℕ))) (d : Bor (List ℕ)) where
+  parts_three : IsSpelling p (text_lines (x ∷ y ∷ z ∷ zs)) → Parts p (x ∷ y ∷ z ∷ zs) d
+  parts_three (bar, column, e, low, high) =
+      let rest : take (length (x ∷ y ∷ z ∷ zs) - 2) (drop 2 (x ∷ y ∷ z ∷ zs)) ≡ z ∷ zs = take_rest (z ∷ zs) in
+      let is_bar : (line_of y.now).column ≡ bar = ap (λ ls. (get_or ls 1 heading).column) e in
+      let tail : text_lines (z ∷ zs) ≡ commands p.texts p.console column = ap (drop 2) e in
+      let is_column : (line_of z.now).column ≡ column = first_of_commands (line_of z.now) (text_lines zs) p.texts p.console column tail in
+      record {
+        first = ap (λ ls. get_or ls 0 heading) e;
+        low = rw is_bar low;
+        high = rw rest (rw (is_bar, is_column) high);
+        name = λ name bar' is. rw rest
+            (tail ∙ ap (λ n. commands p.texts n column) (sym (same_name name p.console bar' bar (sym is ∙ ap (λ ls. get_or ls 1 heading) e)))
+            ∙ ap (λ k. commands p.texts name k) (sym is_column));
+      }
+
+pub parts : (p : Prints) (xs : List (Bor (List ℕ))) (d : Bor (List ℕ)) → 2 ≤ length xs → 1 ≤ length (take (length xs - 2) (drop 2 xs))
+    → IsSpelling p (text_lines xs) → Parts p xs d
+parts p [] d two one s = absurd (omega (arith, two))
+parts p (x ∷ []) d two one s = absurd (omega (arith, two))
+parts p (x ∷ y ∷ []) d two one s = absurd (omega (arith, one))
+parts p (x ∷ y ∷ z ∷ zs) d two one s = parts_three p x y z zs d s
+
+same_texts : (ts us : List (List ℕ)) (name other : List ℕ) (column column' : ℕ) → commands ts name column ≡ commands us other column' → ts ≡ us
+same_texts [] [] name other column column' e = refl
+same_texts [] (u ∷ us) name other column column' e = absurd (no_close other name column' column (sym (ap (λ ls. get_or ls 0 heading) e)))
+same_texts (t ∷ ts) [] name other column column' e = absurd (no_close name other column column' (ap (λ ls. get_or ls 0 heading) e))
+same_texts (t ∷ ts) (u ∷ us) name other column column' e =
+    ap (λ (x : List ℕ). x ∷ ts) (same_text t u name column other column' (ap (λ ls. get_or ls 1 heading) e)) ∙ ap (λ x. u ∷ x) (same_texts ts us name other column column' (ap (drop 2) e))
+
+prints_with : List ℕ → List (List ℕ) → Prints
+prints_with name texts = record { console = name; texts = texts }
+
+-- lines spell at most one process
+pub one_spelling : (p q : Prints) (lines : List Line) → IsSpelling p lines → IsSpelling q lines → p ≡ q
+unfolding prints_with
+one_spelling p q lines (bar, column, e, low, high) (bar', column', e', low', high') =
+    let same : spelled p bar column ≡ spelled q bar' column' = sym e ∙ e' in
+    let names : p.console ≡ q.console = same_name p.console q.console bar bar' (ap (λ ls. get_or ls 1 heading) same) in
+    let texts : p.texts ≡ q.texts = same_texts p.texts q.texts p.console q.console column column' (ap (drop 2) same) in
+    ap (λ n. prints_with n p.texts) names ∙ ap (λ ts. prints_with q.console ts) texts
+
+-- a source is of the form of at most one process
+pub one_form : (p q : Prints) (source : List ℕ) → IsFormOf p source → IsFormOf q source → p ≡ q
+one_form p q source a b = one_spelling p q (lines_of source) a.0 b.0

@@ -56,9 +56,8 @@ pub fn read_printer(alloc: Global, source: &str) -> Result<Option<Printer>, Allo
     let Some(printer) = printer_of(alloc, lines.as_slice())? else {
         return Ok(None);
     };
-    if is_fine(&printer) {
-        Ok(Some(printer))
-    } else {
-        Ok(None)
+    if !is_fine(&printer) {
+        return Ok(None);
     }
+    Ok(Some(printer))
 }

@@ -1,6 +1,6 @@
 //! Limits on names and texts.
 
-ghost use Rattle.std.specs.Prelude.{◌≡◌, ◌↔◌, IsTrue, All, Contains, length, chars};
+ghost use Rattle.std.specs.Prelude.{◌≡◌, ◌↔◌, IsTrue, All, Contains, length, chars, map, string_bytes};
 ghost use Rattle.campl_cli.specs.Form.{reserved, IsNameByte, IsName, IsPlain, IsText, IsFine, prints_of};
 
 use super::Printer;
@@ -20,10 +20,16 @@ static RESERVED: [&str; 38] = [
     "True", "False", "Put", "Get", "Neg", "TopBot",
 ];
 
+fn is_among(name: &str, words: &[&str]) -> bool
+    ensures { IsTrue result ↔ Contains (map (λ word. word.now) words.now) name.now }
+{
+    words.contains(&name)
+}
+
 fn is_reserved(name: &str) -> bool
     ensures { IsTrue result ↔ Contains reserved name.now }
 {
-    RESERVED.contains(&name)
+    is_among(name, &RESERVED)
 }
 
 fn is_name_byte(b: u8) -> bool
@@ -60,11 +66,15 @@ fn is_text(text: &str) -> bool
     char_count(text) <= TEXT_LIMIT && is_plain(text)
 }
 
+fn are_texts(texts: &[String]) -> bool
+    ensures { IsTrue result ↔ All IsText (map string_bytes texts.now) }
+{
+    texts.iter().all(|text| is_text(text.as_str()))
+}
+
 /// Whether a process keeps the limits.
 pub fn is_fine(printer: &Printer) -> bool
     ensures { IsTrue result ↔ IsFine (prints_of printer.now) }
 {
-    is_name(printer.console.as_str())
-        && printer.texts.len() <= PRINT_LIMIT
-        && printer.texts.iter().all(|text| is_text(text.as_str()))
+    is_name(printer.console.as_str()) && printer.texts.len() <= PRINT_LIMIT && are_texts(printer.texts.as_slice())
 }
