@@ -6,6 +6,10 @@ use Rattle.campl_cli.specs.Pieces.{Piece, Word, Quoted, Unclosed, Line, line_of,
 use Rattle.campl_cli.specs.Form.{Prints, heading, row, hput, put, halt, IsPrint, commands, spelled, IsSpelling, IsFormOf}
 use Rattle.campl_cli.proofs.Runs.{append-nil}
 
+-- the lines that texts hold
+abbrev pub text_lines : List (Bor (List ℕ)) → List Line
+text_lines texts = map (λ line. line_of line.now) texts
+
 -- the bytes of a piece
 bytes_of : Piece → List ℕ
 bytes_of (Word text) = text
@@ -82,25 +86,22 @@ module _ (name : List ℕ) (column : ℕ) (all : List Line) where
       let m : 2 ≤ length (commands found.0 name column) = length-commands found.0 name column in
       absurd (omega (arith, l, m, short))
 
-  -- the same of lines that are texts, by places
-  abbrev pub lines : List (Bor (List ℕ)) → List Line
-  lines texts = map (λ line. line_of line.now) texts
-
-  pub read_more_at : (texts : List (List ℕ)) (text : List ℕ) (xs : List (Bor (List ℕ))) (d : Bor (List ℕ)) → 2 ≤ length xs → IsReading texts (lines xs)
-      → IsPrint text name column (line_of (get_or xs 0 d).now) (line_of (get_or xs 1 d).now) → IsReading (texts ++ text ∷ []) (lines (take (length xs - 2) (drop 2 xs)))
+  -- the same of texts, by places
+  pub read_more_at : (texts : List (List ℕ)) (text : List ℕ) (xs : List (Bor (List ℕ))) (d : Bor (List ℕ)) → 2 ≤ length xs → IsReading texts (text_lines xs)
+      → IsPrint text name column (line_of (get_or xs 0 d).now) (line_of (get_or xs 1 d).now) → IsReading (texts ++ text ∷ []) (text_lines (take (length xs - 2) (drop 2 xs)))
   read_more_at texts text [] d two reading p = absurd (omega (arith, two))
   read_more_at texts text (x ∷ []) d two reading p = absurd (omega (arith, two))
   read_more_at texts text (x ∷ y ∷ zs) d two reading p =
-      subst (λ rest. IsReading (texts ++ text ∷ []) (lines rest)) (sym (take_rest zs)) (read_more texts text (line_of x.now) (line_of y.now) (lines zs) reading p)
+      subst (λ rest. IsReading (texts ++ text ∷ []) (text_lines rest)) (sym (take_rest zs)) (read_more texts text (line_of x.now) (line_of y.now) (text_lines zs) reading p)
 
-  pub stuck_at : (texts : List (List ℕ)) (xs : List (Bor (List ℕ))) (d : Bor (List ℕ)) → 2 ≤ length xs → IsReading texts (lines xs)
-      → ((text : List ℕ) → IsPrint text name column (line_of (get_or xs 0 d).now) (line_of (get_or xs 1 d).now) → ⊥) → (lines xs ≡ commands [] name column → ⊥)
+  pub stuck_at : (texts : List (List ℕ)) (xs : List (Bor (List ℕ))) (d : Bor (List ℕ)) → 2 ≤ length xs → IsReading texts (text_lines xs)
+      → ((text : List ℕ) → IsPrint text name column (line_of (get_or xs 0 d).now) (line_of (get_or xs 1 d).now) → ⊥) → (text_lines xs ≡ commands [] name column → ⊥)
       → (ts : List (List ℕ)) → all ≡ commands ts name column → ⊥
   stuck_at texts [] d two reading no_print no_end = absurd (omega (arith, two))
   stuck_at texts (x ∷ []) d two reading no_print no_end = absurd (omega (arith, two))
-  stuck_at texts (x ∷ y ∷ zs) d two reading no_print no_end = stuck texts (line_of x.now) (line_of y.now) (lines zs) reading no_print no_end
+  stuck_at texts (x ∷ y ∷ zs) d two reading no_print no_end = stuck texts (line_of x.now) (line_of y.now) (text_lines zs) reading no_print no_end
 
-  pub too_short_at : (texts : List (List ℕ)) (xs : List (Bor (List ℕ))) → IsReading texts (lines xs) → length xs < 2 → (ts : List (List ℕ)) → all ≡ commands ts name column → ⊥
+  pub too_short_at : (texts : List (List ℕ)) (xs : List (Bor (List ℕ))) → IsReading texts (text_lines xs) → length xs < 2 → (ts : List (List ℕ)) → all ≡ commands ts name column → ⊥
   too_short_at texts [] reading short = too_short texts [] reading (lit< tt)
   too_short_at texts (x ∷ []) reading short = too_short texts (line_of x.now ∷ []) reading (lit< tt)
   too_short_at texts (x ∷ y ∷ zs) reading short = absurd (omega (arith, short))
@@ -117,9 +118,6 @@ bytes-push old new s text e is = ap (map string_bytes) e ∙ map-push string_byt
 same_name : (name other : List ℕ) (bar bar' : ℕ) → row name bar ≡ row other bar' → name ≡ other
 unfolding second bytes_of
 same_name name other bar bar' e = ap second e
-
-abbrev text_lines : List (Bor (List ℕ)) → List Line
-text_lines texts = map (λ line. line_of line.now) texts
 
 -- lines whose second is no row spell nothing
 pub no_row : (xs : List (Bor (List ℕ))) (d : Bor (List ℕ)) → 2 ≤ length xs → ((name : List ℕ) (bar : ℕ) → line_of (get_or xs 1 d).now ≡ row name bar → ⊥)
