@@ -2,13 +2,9 @@
 use Rattle.std.proofs.Common.{◌≡◌, ℕ, suc, ◌+◌, ◌-◌, ◌<◌, ◌≤◌, List, [], ◌∷◌, ◌++◌, length, get_or, take, drop, map, refl, sym, ◌∙◌, ap, subst, arith, append_assoc, lit<}
 use denote.Ref.{Bor}
 use Rattle.std.specs.Prelude.{codes, String, string_bytes}
-use Rattle.campl_cli.specs.Pieces.{Piece, Word, Quoted, Unclosed, Line, line_of, lines_of}
+use Rattle.campl_cli.specs.Pieces.{Piece, Word, Quoted, Unclosed, Line, line_of, lines_of, lines_in}
 use Rattle.campl_cli.specs.Form.{Prints, heading, row, hput, put, halt, IsPrint, commands, spelled, IsSpelling, IsFormOf}
 use Rattle.campl_cli.proofs.Runs.{append-nil}
-
--- the lines that texts hold
-abbrev pub text_lines : List (Bor (List ℕ)) → List Line
-text_lines texts = map (λ line. line_of line.now) texts
 
 -- the bytes of a piece
 bytes_of : Piece → List ℕ
@@ -56,8 +52,8 @@ module _ (name : List ℕ) (column : ℕ) (all : List Line) where
       → IsPrint text name column a b → IsReading (texts ++ text ∷ []) rest
   read_more texts text a b rest reading (is_hput, is_put) = record {
     forth = λ us e.
-      reading.forth (text ∷ us) (ap (λ x. x ∷ b ∷ rest) is_hput ∙ ap (λ x. hput (codes "ConsolePut") name column ∷ x ∷ rest) is_put ∙ ap (λ x. hput (codes "ConsolePut") name column ∷ put text name column ∷ x) e)
-      ∙ ap (λ (ts : List (List ℕ)). commands ts name column) (sym (append_assoc texts (text ∷ []) us));
+        reading.forth (text ∷ us) (ap (λ x. x ∷ b ∷ rest) is_hput ∙ ap (λ x. hput (codes "ConsolePut") name column ∷ x ∷ rest) is_put ∙ ap (λ x. hput (codes "ConsolePut") name column ∷ put text name column ∷ x) e)
+        ∙ ap (λ (ts : List (List ℕ)). commands ts name column) (sym (append_assoc texts (text ∷ []) us));
     back = λ ts e. let found = reading.back ts e in by found.0 ts found.1 found.2;
   }
     where
@@ -87,21 +83,21 @@ module _ (name : List ℕ) (column : ℕ) (all : List Line) where
       absurd (omega (arith, l, m, short))
 
   -- the same of texts, by places
-  pub read_more_at : (texts : List (List ℕ)) (text : List ℕ) (xs : List (Bor (List ℕ))) (d : Bor (List ℕ)) → 2 ≤ length xs → IsReading texts (text_lines xs)
-      → IsPrint text name column (line_of (get_or xs 0 d).now) (line_of (get_or xs 1 d).now) → IsReading (texts ++ text ∷ []) (text_lines (take (length xs - 2) (drop 2 xs)))
+  pub read_more_at : (texts : List (List ℕ)) (text : List ℕ) (xs : List (Bor (List ℕ))) (d : Bor (List ℕ)) → 2 ≤ length xs → IsReading texts (lines_in xs)
+      → IsPrint text name column (line_of (get_or xs 0 d).now) (line_of (get_or xs 1 d).now) → IsReading (texts ++ text ∷ []) (lines_in (take (length xs - 2) (drop 2 xs)))
   read_more_at texts text [] d two reading p = absurd (omega (arith, two))
   read_more_at texts text (x ∷ []) d two reading p = absurd (omega (arith, two))
   read_more_at texts text (x ∷ y ∷ zs) d two reading p =
-      subst (λ rest. IsReading (texts ++ text ∷ []) (text_lines rest)) (sym (take_rest zs)) (read_more texts text (line_of x.now) (line_of y.now) (text_lines zs) reading p)
+      subst (λ rest. IsReading (texts ++ text ∷ []) (lines_in rest)) (sym (take_rest zs)) (read_more texts text (line_of x.now) (line_of y.now) (lines_in zs) reading p)
 
-  pub stuck_at : (texts : List (List ℕ)) (xs : List (Bor (List ℕ))) (d : Bor (List ℕ)) → 2 ≤ length xs → IsReading texts (text_lines xs)
-      → ((text : List ℕ) → IsPrint text name column (line_of (get_or xs 0 d).now) (line_of (get_or xs 1 d).now) → ⊥) → (text_lines xs ≡ commands [] name column → ⊥)
+  pub stuck_at : (texts : List (List ℕ)) (xs : List (Bor (List ℕ))) (d : Bor (List ℕ)) → 2 ≤ length xs → IsReading texts (lines_in xs)
+      → ((text : List ℕ) → IsPrint text name column (line_of (get_or xs 0 d).now) (line_of (get_or xs 1 d).now) → ⊥) → (lines_in xs ≡ commands [] name column → ⊥)
       → (ts : List (List ℕ)) → all ≡ commands ts name column → ⊥
   stuck_at texts [] d two reading no_print no_end = absurd (omega (arith, two))
   stuck_at texts (x ∷ []) d two reading no_print no_end = absurd (omega (arith, two))
-  stuck_at texts (x ∷ y ∷ zs) d two reading no_print no_end = stuck texts (line_of x.now) (line_of y.now) (text_lines zs) reading no_print no_end
+  stuck_at texts (x ∷ y ∷ zs) d two reading no_print no_end = stuck texts (line_of x.now) (line_of y.now) (lines_in zs) reading no_print no_end
 
-  pub too_short_at : (texts : List (List ℕ)) (xs : List (Bor (List ℕ))) → IsReading texts (text_lines xs) → length xs < 2 → (ts : List (List ℕ)) → all ≡ commands ts name column → ⊥
+  pub too_short_at : (texts : List (List ℕ)) (xs : List (Bor (List ℕ))) → IsReading texts (lines_in xs) → length xs < 2 → (ts : List (List ℕ)) → all ≡ commands ts name column → ⊥
   too_short_at texts [] reading short = too_short texts [] reading (lit< tt)
   too_short_at texts (x ∷ []) reading short = too_short texts (line_of x.now ∷ []) reading (lit< tt)
   too_short_at texts (x ∷ y ∷ zs) reading short = absurd (omega (arith, short))
@@ -121,13 +117,13 @@ same_name name other bar bar' e = ap second e
 
 -- lines whose second is no row spell nothing
 pub no_row : (xs : List (Bor (List ℕ))) (d : Bor (List ℕ)) → 2 ≤ length xs → ((name : List ℕ) (bar : ℕ) → line_of (get_or xs 1 d).now ≡ row name bar → ⊥)
-    → (p : Prints) → IsSpelling p (text_lines xs) → ⊥
+    → (p : Prints) → IsSpelling p (lines_in xs) → ⊥
 no_row [] d two bad p s = absurd (omega (arith, two))
 no_row (x ∷ []) d two bad p s = absurd (omega (arith, two))
 no_row (x ∷ y ∷ zs) d two bad p (bar, column, e, low, high) = bad p.console bar (ap (λ ls. get_or ls 1 heading) e)
 
 -- nor do two lines
-pub no_commands : (xs : List (Bor (List ℕ))) → 2 ≤ length xs → length (take (length xs - 2) (drop 2 xs)) < 1 → (p : Prints) → IsSpelling p (text_lines xs) → ⊥
+pub no_commands : (xs : List (Bor (List ℕ))) → 2 ≤ length xs → length (take (length xs - 2) (drop 2 xs)) < 1 → (p : Prints) → IsSpelling p (lines_in xs) → ⊥
 no_commands [] two short p s = absurd (omega (arith, two))
 no_commands (x ∷ []) two short p s = absurd (omega (arith, two))
 no_commands (x ∷ y ∷ []) two short p (bar, column, e, low, high) =
@@ -142,15 +138,15 @@ pub record Parts (p : Prints) (xs : List (Bor (List ℕ))) (d : Bor (List ℕ)) 
   pub low : 1 < (line_of (get_or xs 1 d).now).column
   pub high : (line_of (get_or xs 1 d).now).column < (line_of (get_or (take (length xs - 2) (drop 2 xs)) 0 d).now).column
   pub name : (name : List ℕ) (bar : ℕ) → line_of (get_or xs 1 d).now ≡ row name bar
-      → text_lines (take (length xs - 2) (drop 2 xs)) ≡ commands p.texts name (line_of (get_or (take (length xs - 2) (drop 2 xs)) 0 d).now).column
+      → lines_in (take (length xs - 2) (drop 2 xs)) ≡ commands p.texts name (line_of (get_or (take (length xs - 2) (drop 2 xs)) 0 d).now).column
 
 module _ (p : Prints) (x y z : Bor (List ℕ)) (zs : List (Bor (List ℕ))) (d : Bor (List ℕ)) where
-  parts_three : IsSpelling p (text_lines (x ∷ y ∷ z ∷ zs)) → Parts p (x ∷ y ∷ z ∷ zs) d
+  parts_three : IsSpelling p (lines_in (x ∷ y ∷ z ∷ zs)) → Parts p (x ∷ y ∷ z ∷ zs) d
   parts_three (bar, column, e, low, high) =
       let rest : take (length (x ∷ y ∷ z ∷ zs) - 2) (drop 2 (x ∷ y ∷ z ∷ zs)) ≡ z ∷ zs = take_rest (z ∷ zs) in
       let is_bar : (line_of y.now).column ≡ bar = ap (λ ls. (get_or ls 1 heading).column) e in
-      let tail : text_lines (z ∷ zs) ≡ commands p.texts p.console column = ap (drop 2) e in
-      let is_column : (line_of z.now).column ≡ column = first_of_commands (line_of z.now) (text_lines zs) p.texts p.console column tail in
+      let tail : lines_in (z ∷ zs) ≡ commands p.texts p.console column = ap (drop 2) e in
+      let is_column : (line_of z.now).column ≡ column = first_of_commands (line_of z.now) (lines_in zs) p.texts p.console column tail in
       record {
         first = ap (λ ls. get_or ls 0 heading) e;
         low = rw is_bar low;
@@ -161,7 +157,7 @@ module _ (p : Prints) (x y z : Bor (List ℕ)) (zs : List (Bor (List ℕ))) (d :
       }
 
 pub parts : (p : Prints) (xs : List (Bor (List ℕ))) (d : Bor (List ℕ)) → 2 ≤ length xs → 1 ≤ length (take (length xs - 2) (drop 2 xs))
-    → IsSpelling p (text_lines xs) → Parts p xs d
+    → IsSpelling p (lines_in xs) → Parts p xs d
 parts p [] d two one s = absurd (omega (arith, two))
 parts p (x ∷ []) d two one s = absurd (omega (arith, two))
 parts p (x ∷ y ∷ []) d two one s = absurd (omega (arith, one))

@@ -2,4 +2,4 @@ pub mod Examples
 pub mod Runs
 pub mod Lines
 pub mod Commands
-pub mod Fine
+pub mod Limits

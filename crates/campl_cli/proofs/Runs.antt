@@ -69,7 +69,7 @@ cuts (n ∷ ns) s r (m, h, f, e) =
     record {
       same = before.same ∙ ap pieces_in is;
       column = let k : prefix_len is_space m ≡ 1 + prefix_len is_space r = ap (prefix_len is_space) is in
-        let w : length m ≡ suc (length r) = ap length is in omega arith;
+          let w : length m ≡ suc (length r) = ap length is in omega arith;
     }
 
 trimmed : (s r : List ℕ) → IsTrimStartMatches (FindsCharPrefix 32) s r → IsTrimmed s r

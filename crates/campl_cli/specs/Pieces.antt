@@ -1,6 +1,7 @@
 -- A source as lines of pieces. Spaces and line feeds stand between pieces; a piece that begins with a quote goes to the
 -- next quote of its line or to the line's end, and every other piece to the next space or to the line's end.
 use Rattle.std.specs.Prelude.{ℕ, ◌+◌, Bool, true, false, ◌==◌, if◌then◌else◌, List, [], ◌∷◌, ◌++◌, map, filter}
+use Rattle.std.specs.Borrow.{Bor}
 use Rattle.std.specs.List.{slice_split, prefix_len}
 use Rattle.campl_cli.specs.declared.reader.pieces.Piece as piece
 use Rattle.campl_cli.specs.declared.reader.pieces.Piece.TheVariants as shown
@@ -60,6 +61,14 @@ is_space b = b == 32
 
 abbrev pub line_of : List ℕ → Line
 line_of bytes = record { column = prefix_len is_space bytes + 1; pieces = pieces_in bytes }
+
+-- the lines that texts hold
+abbrev pub lines_in : List (Bor (List ℕ)) → List Line
+lines_in texts = map (λ text. line_of text.now) texts
+
+-- the words that texts are
+abbrev pub words_in : List (Bor (List ℕ)) → List Piece
+words_in texts = map (λ text. Word text.now) texts
 
 -- whether a line has a piece
 abbrev pub has_piece : Line → Bool

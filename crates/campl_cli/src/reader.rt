@@ -1,18 +1,19 @@
 //! Reads a source that prints texts on one console, closes it and halts.
 
 mod commands;
-mod fine;
+mod limits;
 mod pieces;
+#[cfg(test)]
+mod tests;
 
-ghost use Rattle.std.specs.Prelude.{◌≡◌, List, map, IfOk, MatchOption};
-ghost use Rattle.campl_cli.specs.Pieces.{Line, line_of};
+ghost use Rattle.std.specs.Prelude.{IfOk, MatchOption};
+ghost use Rattle.campl_cli.specs.Pieces.{lines_in};
 ghost use Rattle.campl_cli.specs.Form.{Prints, IsSpelling, IsFormOf, prints_of};
 
-use std::alloc::{AllocError, Global};
-
 use commands::{is_heading, row_name, texts_of};
-use fine::is_fine;
+use limits::is_fine;
 use pieces::{column_of, lines_of};
+use std::alloc::{AllocError, Global};
 
 /// A process that prints texts on its one console, closes it and halts.
 #[derive(Drop)]
@@ -25,7 +26,9 @@ pub struct Printer {
 
 // Reads lines that spell a process, with names and texts of any length.
 fn printer_of(alloc: Global, lines: &[&str]) -> Result<Option<Printer>, AllocError>
-    ensures { IfOk result (λ read. MatchOption read ((p : Prints) → IsSpelling p (map (λ line. line_of line.now) lines.now) → ⊥) (λ printer. IsSpelling (prints_of printer) (map (λ line. line_of line.now) lines.now))) }
+    ensures { IfOk result (λ read. MatchOption read
+        ((p : Prints) → IsSpelling p (lines_in lines.now) → ⊥)
+        (λ printer. IsSpelling (prints_of printer) (lines_in lines.now))) }
 {
     let [heading, row, commands @ ..] = lines else {
         return Ok(None);
@@ -50,7 +53,9 @@ fn printer_of(alloc: Global, lines: &[&str]) -> Result<Option<Printer>, AllocErr
 
 /// Reads a source of the form; `None` exactly where it isn't of the form.
 pub fn read_printer(alloc: Global, source: &str) -> Result<Option<Printer>, AllocError>
-    ensures { IfOk result (λ read. MatchOption read ((p : Prints) → IsFormOf p source.now → ⊥) (λ printer. IsFormOf (prints_of printer) source.now)) }
+    ensures { IfOk result (λ read. MatchOption read
+        ((p : Prints) → IsFormOf p source.now → ⊥)
+        (λ printer. IsFormOf (prints_of printer) source.now)) }
 {
     let lines = lines_of(alloc, source)?;
     let Some(printer) = printer_of(alloc, lines.as_slice())? else {

@@ -1,16 +1,15 @@
 //! The lines of the form, each from its pieces.
 
-ghost use Rattle.std.specs.Prelude.{◌≡◌, ℕ, ◌↔◌, List, [], map, IsTrue, IfOk, MatchOption, string_bytes, codes};
-ghost use Rattle.campl_cli.specs.Pieces.{Line, Word, line_of};
+ghost use Rattle.std.specs.Prelude.{◌≡◌, ℕ, ◌↔◌, List, [], map, IsTrue, IfOk, MatchOption, string_bytes};
+ghost use Rattle.campl_cli.specs.Pieces.{line_of, lines_in, words_in};
 ghost use Rattle.campl_cli.specs.Form.{heading, row, hput, put, halt, IsPrint, commands};
 
-use std::alloc::{AllocError, Global};
-
 use super::pieces::{Piece, after_word, column_of, is_words, next_piece};
+use std::alloc::{AllocError, Global};
 
 // Whether a line begins in this column and has these words.
 fn is_line(line: &str, column: usize, words: &[&str]) -> bool
-    ensures { IsTrue result ↔ (line_of line.now ≡ record { column = column; pieces = map (λ word. Word word.now) words.now }) }
+    ensures { IsTrue result ↔ (line_of line.now ≡ record { column = column; pieces = words_in words.now }) }
 {
     column_of(line) == column && is_words(line, words)
 }
@@ -19,12 +18,18 @@ fn is_line(line: &str, column: usize, words: &[&str]) -> bool
 pub fn is_heading(line: &str) -> bool
     ensures { IsTrue result ↔ (line_of line.now ≡ heading) }
 {
-    is_line(line, 1, &["proc", "run", "::", "|", "Console", "=>", "where"])
+    is_line(
+        line,
+        1,
+        &["proc", "run", "::", "|", "Console", "=>", "where"],
+    )
 }
 
 /// The name in a line `| NAME => -> do`.
 pub fn row_name<'a>(line: &'a str) -> Option<&'a str>
-    ensures { MatchOption result ((name : List ℕ) (bar : ℕ) → line_of line.now ≡ row name bar → ⊥) (λ name. line_of line.now ≡ row name.now (line_of line.now).column) }
+    ensures { MatchOption result
+        ((name : List ℕ) (bar : ℕ) → line_of line.now ≡ row name bar → ⊥)
+        (λ name. line_of line.now ≡ row name.now (line_of line.now).column) }
 {
     let rest = after_word(line, "|")?;
     let (Piece::Word(name), rest) = next_piece(rest)? else {
@@ -53,7 +58,9 @@ fn is_halt(line: &str, column: usize, name: &str) -> bool
 
 // The text in a line `put TEXT on NAME` in this column.
 fn put_text<'a>(line: &'a str, column: usize, name: &str) -> Option<&'a str>
-    ensures { MatchOption result ((text : List ℕ) → line_of line.now ≡ put text name.now column → ⊥) (λ text. line_of line.now ≡ put text.now name.now column) }
+    ensures { MatchOption result
+        ((text : List ℕ) → line_of line.now ≡ put text name.now column → ⊥)
+        (λ text. line_of line.now ≡ put text.now name.now column) }
 {
     let rest = after_word(line, "put")?;
     let (Piece::Quoted(text), rest) = next_piece(rest)? else {
@@ -68,7 +75,9 @@ fn put_text<'a>(line: &'a str, column: usize, name: &str) -> Option<&'a str>
 
 // The text that two lines in this column print.
 fn print_text<'a>(choice: &str, print: &'a str, column: usize, name: &str) -> Option<&'a str>
-    ensures { MatchOption result ((text : List ℕ) → IsPrint text name.now column (line_of choice.now) (line_of print.now) → ⊥) (λ text. IsPrint text.now name.now column (line_of choice.now) (line_of print.now)) }
+    ensures { MatchOption result
+        ((text : List ℕ) → IsPrint text name.now column (line_of choice.now) (line_of print.now) → ⊥)
+        (λ text. IsPrint text.now name.now column (line_of choice.now) (line_of print.now)) }
 {
     let text = put_text(print, column, name)?;
     if is_hput(choice, column, "ConsolePut", name) {
@@ -80,17 +89,26 @@ fn print_text<'a>(choice: &str, print: &'a str, column: usize, name: &str) -> Op
 
 // Whether lines in this column close the console and halt.
 fn is_closing(lines: &[&str], column: usize, name: &str) -> bool
-    ensures { IsTrue result ↔ (map (λ line. line_of line.now) lines.now ≡ commands [] name.now column) }
+    ensures { IsTrue result ↔ (lines_in lines.now ≡ commands [] name.now column) }
 {
     match lines {
-        [close, last] => is_hput(close, column, "ConsoleClose", name) && is_halt(last, column, name),
+        [close, last] => is_hput(close, column, "ConsoleClose", name)
+            && is_halt(last, column, name),
         _ => false,
     }
 }
 
-/// The texts that commands in this column print before they close the console and halt; `None` where they do anything else.
-pub fn texts_of(alloc: Global, lines: &[&str], column: usize, name: &str) -> Result<Option<Vec<String>>, AllocError>
-    ensures { IfOk result (λ found. MatchOption found ((texts : List (List ℕ)) → map (λ line. line_of line.now) lines.now ≡ commands texts name.now column → ⊥) (λ texts. map (λ line. line_of line.now) lines.now ≡ commands (map string_bytes texts.items) name.now column)) }
+/// The texts that commands in this column print before they close the console and halt; `None`
+/// where they do anything else.
+pub fn texts_of(
+    alloc: Global,
+    lines: &[&str],
+    column: usize,
+    name: &str,
+) -> Result<Option<Vec<String>>, AllocError>
+    ensures { IfOk result (λ found. MatchOption found
+        ((texts : List (List ℕ)) → lines_in lines.now ≡ commands texts name.now column → ⊥)
+        (λ texts. lines_in lines.now ≡ commands (map string_bytes texts.items) name.now column)) }
 {
     let mut texts = Vec::new(alloc);
     let mut rest = lines;

@@ -1,7 +1,7 @@
 //! A source as lines of pieces.
 
-ghost use Rattle.std.specs.Prelude.{◌≡◌, ◌+◌, ◌↔◌, List, [], ◌∷◌, map, slice_index, IsTrue, IfOk, MatchOption, ◌≢◌, ◌<◌, length};
-ghost use Rattle.campl_cli.specs.Pieces.{Piece as SpecPiece, Word, Quoted, InQuotes, piece_of, pieces_in, pieces_from, line_of, lines_of, has_piece};
+ghost use Rattle.std.specs.Prelude.{◌≡◌, ◌+◌, ◌↔◌, List, [], ◌∷◌, slice_index, IsTrue, IfOk, MatchOption, ◌≢◌, ◌<◌, length};
+ghost use Rattle.campl_cli.specs.Pieces.{Piece as SpecPiece, Word, Quoted, InQuotes, piece_of, pieces_in, pieces_from, line_of, lines_of, lines_in, words_in, has_piece};
 
 use std::alloc::{AllocError, Global};
 
@@ -38,7 +38,9 @@ fn word_piece<'a>(text: &'a str) -> (Piece<'a>, &'a str)
 
 /// The first piece of a line, and the rest of the line; `None` where it has none.
 pub fn next_piece<'a>(line: &'a str) -> Option<(Piece<'a>, &'a str)>
-    ensures { MatchOption result (pieces_in line.now ≡ []) (λ next. pieces_in line.now ≡ piece_of next.0 ∷ pieces_in next.1.now) }
+    ensures { MatchOption result
+        (pieces_in line.now ≡ [])
+        (λ next. pieces_in line.now ≡ piece_of next.0 ∷ pieces_in next.1.now) }
 {
     let text = line.trim_start_matches(' ');
     if text.is_empty() {
@@ -59,7 +61,9 @@ fn has_piece(line: &str) -> bool
 
 /// What follows a word at the front of a line; `None` where the line doesn't begin with that word.
 pub fn after_word<'a>(line: &'a str, word: &str) -> Option<&'a str>
-    ensures { MatchOption result ((more : List SpecPiece) → pieces_in line.now ≡ Word word.now ∷ more → ⊥) (λ rest. pieces_in line.now ≡ Word word.now ∷ pieces_in rest.now) }
+    ensures { MatchOption result
+        ((more : List SpecPiece) → pieces_in line.now ≡ Word word.now ∷ more → ⊥)
+        (λ rest. pieces_in line.now ≡ Word word.now ∷ pieces_in rest.now) }
 {
     match next_piece(line) {
         Some((Piece::Word(found), rest)) if found == word => Some(rest),
@@ -69,7 +73,7 @@ pub fn after_word<'a>(line: &'a str, word: &str) -> Option<&'a str>
 
 /// Whether these words are the pieces of a line.
 pub fn is_words(line: &str, words: &[&str]) -> bool
-    ensures { IsTrue result ↔ (pieces_in line.now ≡ map (λ word. Word word.now) words.now) }
+    ensures { IsTrue result ↔ (pieces_in line.now ≡ words_in words.now) }
 {
     let mut rest = line;
     for word in words {
@@ -90,7 +94,10 @@ pub fn column_of(line: &str) -> usize
 
 /// The lines of a source that have a piece.
 pub fn lines_of<'a>(alloc: Global, source: &'a str) -> Result<Vec<&'a str>, AllocError>
-    ensures { IfOk result (λ lines. map (λ line. line_of line.now) lines.items ≡ lines_of source.now) }
+    ensures { IfOk result (λ lines. lines_in lines.items ≡ lines_of source.now) }
 {
-    source.split('\n').filter(|line| has_piece(line)).collect(alloc)
+    source
+        .split('\n')
+        .filter(|line| has_piece(line))
+        .collect(alloc)
 }

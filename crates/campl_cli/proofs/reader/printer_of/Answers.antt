@@ -18,8 +18,9 @@ returns-then-not-is_heading c = λ p s.
     let bar = c.column_of-bar.ensures in
     let column = c.column_of-column.ensures in
     elim c.then-not-is_heading.either [
-      inl other ↦ let yes = c.is_heading.ensures.1 known.first in cc
-      | inr h ↦ elim h [ inl g ↦ omega (arith, g, low, bar) | inr g ↦ omega (arith, g, high, bar, column) ] ]
+      | inl other ↦ let yes = c.is_heading.ensures.1 known.first in cc
+      | inr h ↦ elim h [ inl g ↦ omega (arith, g, low, bar) | inr g ↦ omega (arith, g, high, bar, column) ]
+    ]
 
 pub returns-in_default-2 : goal.returns-in_default-2
 returns-in_default-2 c = λ p s.

@@ -13,7 +13,7 @@ pub returns : goal.returns
 returns c =
     IfOk-weaker c.collect.result _ _ (λ lines h. map-map lines.items ∙ ap (map line_of) h ∙ map-filter (slice_split (λ b. b == 10) c.args.source.now))
     (map_from_collect _ c.collect.ensures.ran
-        (YieldsList-from_filter _ (λ text. has_piece (line_of text))
-            (YieldsList-at c.filter.ensures.source (YieldsList-from_str_split 10 c.args.source.now (lit< tt) c.split.ensures.text c.split.ensures.has_more c.split.ensures.pattern))
-            c.filter.ensures.closure
-            (λ x b q k. search (rules, tests))))
+    (YieldsList-from_filter _ (λ text. has_piece (line_of text))
+    (YieldsList-at c.filter.ensures.source (YieldsList-from_str_split 10 c.args.source.now (lit< tt) c.split.ensures.text c.split.ensures.has_more c.split.ensures.pattern))
+    c.filter.ensures.closure
+    (λ x b q k. search (rules, tests))))

@@ -2,8 +2,8 @@ use Rattle.std.proofs.Common.{arith, rules}
 use Rattle.std.proofs.lemmas.Grind.{common_steps}
 use Rattle.std.specs.Prelude.{◌↔◌, IsTrue, All, string_bytes}
 use Rattle.campl_cli.specs.Form.{IsText}
-use Rattle.campl_cli.proofs.Fine.{All-bytes, All-texts}
-use Rattle.campl_cli.proofs.reader.fine.are_texts.Goals as goal
+use Rattle.campl_cli.proofs.Limits.{All-bytes, All-texts}
+use Rattle.campl_cli.proofs.reader.limits.are_texts.Goals as goal
 
 pub returns : goal.returns
 returns c =

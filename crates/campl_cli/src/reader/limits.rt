@@ -14,10 +14,46 @@ const TEXT_LIMIT: usize = 1024;
 // The most texts that a process prints.
 const PRINT_LIMIT: usize = 1000;
 
+// The words that are no names.
 static RESERVED: [&str; 38] = [
-    "data", "protocol", "coprotocol", "fun", "proc", "where", "of", "do", "race", "plug", "put", "get", "hput", "hcase", "split",
-    "into", "fork", "close", "halt", "on", "neg", "case", "if", "then", "else", "div", "mod", "code", "char", "Int", "Char", "Bool",
-    "True", "False", "Put", "Get", "Neg", "TopBot",
+    "data",
+    "protocol",
+    "coprotocol",
+    "fun",
+    "proc",
+    "where",
+    "of",
+    "do",
+    "race",
+    "plug",
+    "put",
+    "get",
+    "hput",
+    "hcase",
+    "split",
+    "into",
+    "fork",
+    "close",
+    "halt",
+    "on",
+    "neg",
+    "case",
+    "if",
+    "then",
+    "else",
+    "div",
+    "mod",
+    "code",
+    "char",
+    "Int",
+    "Char",
+    "Bool",
+    "True",
+    "False",
+    "Put",
+    "Get",
+    "Neg",
+    "TopBot",
 ];
 
 fn is_among(name: &str, words: &[&str]) -> bool
@@ -76,5 +112,7 @@ fn are_texts(texts: &[String]) -> bool
 pub fn is_fine(printer: &Printer) -> bool
     ensures { IsTrue result ↔ IsFine (prints_of printer.now) }
 {
-    is_name(printer.console.as_str()) && printer.texts.len() <= PRINT_LIMIT && are_texts(printer.texts.as_slice())
+    is_name(printer.console.as_str())
+        && printer.texts.len() <= PRINT_LIMIT
+        && are_texts(printer.texts.as_slice())
 }
