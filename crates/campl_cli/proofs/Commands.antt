@@ -1,9 +1,9 @@
 -- The commands of the form, read two lines at a time.
-use Rattle.std.proofs.Common.{◌≡◌, ℕ, suc, ◌+◌, ◌-◌, ◌<◌, ◌≤◌, List, [], ◌∷◌, ◌++◌, length, get_or, take, drop, map, refl, sym, ◌∙◌, ap, subst, arith, append_assoc, lit<}
+use Rattle.std.proofs.Common.{◌≡◌, ℕ, suc, ◌-◌, ◌<◌, ◌≤◌, List, [], ◌∷◌, ◌++◌, length, get_or, take, drop, map, refl, sym, ◌∙◌, ap, subst, arith, append_assoc, lit<}
 use denote.Ref.{Bor}
 use Rattle.std.specs.Prelude.{codes, String, string_bytes}
 use Rattle.campl_cli.specs.Pieces.{Piece, Word, Quoted, Unclosed, Line, line_of, lines_of, lines_in}
-use Rattle.campl_cli.specs.Form.{Prints, heading, row, hput, put, halt, IsPrint, commands, spelled, IsSpelling, IsFormOf}
+use Rattle.campl_cli.specs.Form.{Prints, heading, row, hput, put, IsPrint, commands, spelled, IsSpelling, IsFormOf}
 use Rattle.campl_cli.proofs.Runs.{append-nil}
 
 -- the bytes of a piece

@@ -1,5 +1,5 @@
 -- Limits on names and texts.
-use Rattle.std.proofs.Common.{◌≡◌, ℕ, ◌<◌, ◌≤◌, ◌≢◌, ◌⊎◌, inl, inr, Bool, true, false, List, length, get_or, map, refl, arith, sym, ◌∙◌, eqb, leb, zero, suc, [], ◌∷◌}
+use Rattle.std.proofs.Common.{◌≡◌, ℕ, ◌<◌, ◌≤◌, ◌⊎◌, inl, inr, Bool, true, false, List, length, get_or, map, refl, arith, sym, ◌∙◌, eqb, leb, zero, suc, [], ◌∷◌}
 use Rattle.std.specs.Prelude.{◌↔◌, IsTrue, All, MatchBool, chars}
 use Rattle.std.specs.List.{AllWithin, HoldsAt, IsAnyAnswer}
 use Rattle.std.specs.Prelude.{Contains}

@@ -1,9 +1,8 @@
 -- The lines that have a piece, and lines whose pieces are words.
-use Rattle.std.proofs.Common.{◌≡◌, ℕ, ◌+◌, ◌<◌, Bool, true, false, cond, List, [], ◌∷◌, length, get_or, drop, map, refl, sym, ◌∙◌, ap, subst, add-one}
-use Rattle.std.specs.Prelude.{◌↔◌, filter}
-use Rattle.std.proofs.lemmas.List.{drop_more}
+use Rattle.std.proofs.Common.{◌≡◌, ℕ, Bool, true, false, cond, List, [], ◌∷◌, map, refl, ap}
+use Rattle.std.specs.Prelude.{filter}
 use denote.Ref.{Bor}
-use Rattle.campl_cli.specs.Pieces.{Piece, Word, pieces_in, Line, line_of, has_piece}
+use Rattle.campl_cli.specs.Pieces.{line_of, has_piece}
 
 -- choosing among texts by their lines is choosing among lines
 pub map-filter : (texts : List (List ℕ)) → map line_of (filter (λ text. has_piece (line_of text)) texts) ≡ filter has_piece (map line_of texts)

@@ -1,12 +1,12 @@
 -- The pieces of a line whose front is known: spaces, a word up to a space, a text up to a quote.
-use Rattle.std.proofs.Common.{◌≡◌, ℕ, zero, suc, ◌+◌, ◌-◌, ◌<◌, ◌≤◌, ◌≢◌, Bool, true, false, cond, List, [], ◌∷◌, ◌++◌, length, get_or, drop, map, refl, sym, ◌∙◌, ap, subst, arith, eqb, append_assoc, lit<}
-use Rattle.std.specs.Prelude.{Some, None, MatchOption, IfSome, Option, filter}
+use Rattle.std.proofs.Common.{◌≡◌, ℕ, suc, ◌+◌, ◌<◌, ◌≢◌, false, cond, List, [], ◌∷◌, ◌++◌, length, get_or, drop, refl, sym, ◌∙◌, ap, subst, arith, eqb, append_assoc, lit<}
+use Rattle.std.specs.Prelude.{Some, None}
 use Rattle.std.proofs.lemmas.Bool.{ne_eqb}
 use Rattle.std.proofs.lemmas.Str.{encode_ascii}
-use Rattle.std.proofs.lemmas.Str.Pattern.{drop_at_char, strip_prefix_char, split_parts, IsSplitOnceResult}
+use Rattle.std.proofs.lemmas.Str.Pattern.{drop_at_char}
 use Rattle.std.specs.Str.Pattern.{FindsCharPrefix, CutsPrefixes, IsTrimStartMatches, IsFullyTrimmed}
 use Rattle.std.specs.List.{prefix_len}
-use Rattle.campl_cli.specs.Pieces.{Piece, Word, Quoted, Unclosed, Place, Between, InWord, InQuotes, pieces_from, pieces_in, is_space, line_of, has_piece, Line}
+use Rattle.campl_cli.specs.Pieces.{Word, Quoted, Unclosed, InWord, InQuotes, pieces_from, pieces_in, is_space}
 
 -- no byte of the list is c
 abbrev pub Lacks : ℕ → List ℕ → Type 0

@@ -1,6 +1,6 @@
 -- The form of a source that prints texts on one console, closes it and halts.
-use Rattle.std.specs.Prelude.{◌≡◌, ℕ, ◌<◌, ◌≤◌, ◌≢◌, ◌⊎◌, List, [], ◌∷◌, ◌++◌, map, length, slice_index, All, Contains, codes, chars, string_bytes}
-use Rattle.campl_cli.specs.Pieces.{Piece, Word, Quoted, Line, lines_of}
+use Rattle.std.specs.Prelude.{◌≡◌, ℕ, ◌<◌, ◌≤◌, ◌≢◌, ◌⊎◌, List, [], ◌∷◌, map, length, slice_index, All, Contains, codes, chars, string_bytes}
+use Rattle.campl_cli.specs.Pieces.{Word, Quoted, Line, lines_of}
 use Rattle.campl_cli.specs.declared.reader.Printer.{Printer}
 
 -- the bytes of the console's name and of each text

@@ -1,4 +1,4 @@
-use Rattle.std.proofs.Common.{◌≡◌, ◌∙◌, [], ◌⊎◌, inl, inr, arith, ap, sym}
+use Rattle.std.proofs.Common.{◌∙◌, [], inl, inr, arith, ap, sym}
 use Rattle.campl_cli.specs.Form.{commands}
 use Rattle.campl_cli.proofs.Commands.{no_row, no_commands, parts}
 use Rattle.campl_cli.proofs.reader.printer_of.Goals as goal

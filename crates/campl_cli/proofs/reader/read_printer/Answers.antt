@@ -1,4 +1,4 @@
-use Rattle.std.proofs.Common.{◌≡◌, ◌∙◌, map, ap, sym, subst}
+use Rattle.std.proofs.Common.{◌≡◌, ◌∙◌, ap, sym, subst}
 use Rattle.campl_cli.specs.Pieces.{lines_in, lines_of}
 use Rattle.campl_cli.specs.Form.{IsSpelling, IsFine, prints_of}
 use Rattle.campl_cli.proofs.Commands.{one_spelling}

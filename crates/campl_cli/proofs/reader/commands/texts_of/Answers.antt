@@ -1,4 +1,4 @@
-use Rattle.std.proofs.Common.{◌≡◌, map, subst, sym, ◌∷◌, [], ◌++◌, ◌-◌, length, take, drop}
+use Rattle.std.proofs.Common.{◌≡◌, map, ◌∷◌, [], ◌++◌}
 use Rattle.std.specs.Prelude.{string_bytes}
 use Rattle.campl_cli.specs.Pieces.{lines_in}
 use Rattle.campl_cli.proofs.Commands.{read_more_at, read_all, stuck_at, too_short_at, bytes-push}

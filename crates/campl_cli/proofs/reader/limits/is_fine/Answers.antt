@@ -1,6 +1,5 @@
-use Rattle.std.proofs.Common.{◌≡◌, true, false, ◌∙◌, sym, ap, leb, length}
+use Rattle.std.proofs.Common.{◌≡◌, true, ◌∙◌, sym, ap, leb, length}
 use Rattle.std.specs.Prelude.{string_bytes}
-use Rattle.campl_cli.specs.Form.{IsName}
 use Rattle.campl_cli.proofs.Limits.{fine_where}
 use Rattle.campl_cli.proofs.reader.limits.is_fine.Goals as goal
 use Rattle.campl_cli.proofs.reader.limits.is_fine.Goals.{then-is_name, else-is_name}

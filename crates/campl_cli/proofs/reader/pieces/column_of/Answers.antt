@@ -1,6 +1,4 @@
-use Rattle.std.proofs.Common.{◌≡◌, ◌+◌, length, arith}
-use Rattle.std.specs.List.{prefix_len}
-use Rattle.campl_cli.specs.Pieces.{is_space}
+use Rattle.std.proofs.Common.{arith}
 use Rattle.campl_cli.proofs.Runs.{spaces_before}
 use Rattle.campl_cli.proofs.reader.pieces.column_of.Goals as goal
 

@@ -1,4 +1,4 @@
-use Rattle.std.proofs.Common.{◌≡◌, ◌↔◌, drop, map}
+use Rattle.std.proofs.Common.{◌≡◌, ◌↔◌, drop}
 use denote.Text.{Utf8}
 use denote.Shadow.{shadow}
 use Rattle.campl_cli.specs.Pieces.{words_in, pieces_in}

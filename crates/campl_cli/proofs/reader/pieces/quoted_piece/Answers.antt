@@ -1,4 +1,4 @@
-use Rattle.std.proofs.Common.{◌≡◌, [], ◌∷◌, ◌∙◌, ap, lit<}
+use Rattle.std.proofs.Common.{[], ◌∙◌, ap, lit<}
 use Rattle.std.specs.Prelude.{Some, None}
 use Rattle.std.proofs.lemmas.Str.Pattern.{split_parts}
 use Rattle.campl_cli.specs.Pieces.{InQuotes, pieces_from}
