@@ -41,6 +41,7 @@ commands (text ∷ texts) name column = hput (codes "ConsolePut") name column �
 abbrev pub spelled : Prints → ℕ → ℕ → List Line
 spelled p bar column = heading ∷ row p.console bar ∷ commands p.texts p.console column
 
+-- the words that are no names
 abbrev pub reserved : List (List ℕ)
 reserved =
     codes "data" ∷ codes "protocol" ∷ codes "coprotocol" ∷ codes "fun" ∷ codes "proc" ∷ codes "where" ∷ codes "of" ∷ codes "do"
@@ -49,7 +50,7 @@ reserved =
     ∷ codes "mod" ∷ codes "code" ∷ codes "char" ∷ codes "Int" ∷ codes "Char" ∷ codes "Bool" ∷ codes "True" ∷ codes "False" ∷ codes "Put"
     ∷ codes "Get" ∷ codes "Neg" ∷ codes "TopBot" ∷ []
 
--- `a` to `z`
+-- a lower-case ASCII letter
 abbrev pub IsLowercase : ℕ → Type 0
 IsLowercase b = (97 ≤ b) × (b ≤ 122)
 
@@ -57,7 +58,7 @@ IsLowercase b = (97 ≤ b) × (b ≤ 122)
 abbrev pub IsNameByte : ℕ → Type 0
 IsNameByte b = ((97 ≤ b) × (b ≤ 122)) ⊎ (((65 ≤ b) × (b ≤ 90)) ⊎ (((48 ≤ b) × (b ≤ 57)) ⊎ (b ≡ 95)))
 
--- a name of 1 to 64 bytes that isn't reserved
+-- 1 to 64 letters, digits or `_`, of which the first is a lower-case letter, and no reserved word
 pub record IsName (name : List ℕ) : Type 0 where
   pub begins : IsLowercase (slice_index name 0)
   pub goes_on : All IsNameByte name
@@ -73,6 +74,7 @@ pub record IsText (text : List ℕ) : Type 0 where
   pub short : length (chars text) ≤ 1024
   pub plain : All IsPlain (chars text)
 
+-- the name and the texts keep their limits, and so does the number of texts
 pub record IsFine (p : Prints) : Type 0 where
   pub console : IsName p.console
   pub texts : All IsText p.texts
@@ -86,5 +88,6 @@ IsSpelling p lines = (bar : ℕ) × (column : ℕ) × (lines ≡ spelled p bar c
 abbrev pub IsFormOf : Prints → List ℕ → Type 0
 IsFormOf p source = IsSpelling p (lines_of source) × IsFine p
 
+-- the bytes that a value of the program holds
 abbrev pub prints_of : Printer → Prints
 prints_of printer = record { console = string_bytes printer.console; texts = map string_bytes printer.texts.items }

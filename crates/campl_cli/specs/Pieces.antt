@@ -56,9 +56,11 @@ pieces_from place (b ∷ bs) = ended place b ++ pieces_from (behind place b) bs
 abbrev pub pieces_in : List ℕ → List Piece
 pieces_in = pieces_from Between
 
+-- whether a byte is a space
 abbrev pub is_space : ℕ → Bool
 is_space b = b == 32
 
+-- a line's first piece stands behind its spaces
 abbrev pub line_of : List ℕ → Line
 line_of bytes = record { column = prefix_len is_space bytes + 1; pieces = pieces_in bytes }
 
@@ -70,7 +72,7 @@ lines_in texts = map (λ text. line_of text.now) texts
 abbrev pub words_in : List (Bor (List ℕ)) → List Piece
 words_in texts = map (λ text. Word text.now) texts
 
--- whether a line has a piece
+-- whether the line has a piece
 abbrev pub has_piece : Line → Bool
 has_piece line = elim line.pieces [ [] ↦ false | _ ↦ true ]
 
