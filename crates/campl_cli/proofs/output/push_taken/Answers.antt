@@ -2,7 +2,7 @@
 use Rattle.std.proofs.Common.{◌≡◌, ◌∙◌, ap, ◌++◌, List, ℕ, ◌∷◌, []}
 use Rattle.std.specs.Prelude.{string_bytes, chars}
 use Rattle.campl_meaning.specs.Output.{shown_text, end_of_line}
-use Rattle.campl_cli.proofs.Lines.{three_parts}
+use Rattle.campl_cli.proofs.OutputLines.{three_parts}
 use Rattle.campl_cli.proofs.output.push_taken.Goals as goal
 
 pub returns : goal.returns
