@@ -9,7 +9,7 @@ use crate::gate::Gate;
 use crate::performance::{Performance, perform, print};
 use crate::reader::{Printer, read_printer};
 use crate::refusal::{Refusal, SOURCE_LIMIT};
-use crate::refuse::refuse;
+use crate::telling::refuse;
 use crate::report::Report;
 use crate::words::file_of;
 use campl_text::{Shelf, Sink, TextFault, read_text};

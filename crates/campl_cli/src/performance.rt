@@ -8,7 +8,7 @@ ghost use Rattle.campl_cli.specs.Refusals.{write_fault_line};
 
 use crate::output::output;
 use crate::reader::Printer;
-use crate::refuse::WRITE_FAULT;
+use crate::telling::WRITE_FAULT;
 use crate::report::{Ended, Report};
 use crate::runner::run;
 use campl_config::Journal;
