@@ -3,7 +3,7 @@ use Rattle.std.specs.Prelude.{◌≡◌, ◌≢◌, ℕ, ◌⊎◌, List, [], �
 use Rattle.std.specs.Io.KnownBytes.{Appends}
 use Rattle.campl_text.specs.Counts.{Rose}
 use Rattle.campl_meaning.specs.Reductions.{Configuration}
-use Rattle.campl_meaning.specs.Ends.{IsEnd, transcript_of} 
+use Rattle.campl_meaning.specs.Ends.{IsEnd, transcript_of}
 use Rattle.campl_meaning.specs.Ends as e
 use Rattle.campl_meaning.specs.Journals.{IsRunFromStart}
 use Rattle.campl_meaning.specs.Output.{output_of}

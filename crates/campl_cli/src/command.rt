@@ -9,8 +9,8 @@ use crate::gate::Gate;
 use crate::performance::{Performance, perform, print};
 use crate::reader::{Printer, read_printer};
 use crate::refusal::{Refusal, SOURCE_LIMIT};
-use crate::telling::refuse;
 use crate::report::Report;
+use crate::telling::refuse;
 use crate::words::file_of;
 use campl_text::{Shelf, Sink, TextFault, read_text};
 use std::alloc::Global;
@@ -44,7 +44,11 @@ pub fn campl<R: Threads + Sync, F: Shelf, O: Sink, E: Sink, G: Gate>(
 }
 
 // Runs the source of the file that the words name.
-fn perform_words<F: Shelf>(alloc: Global, words: &[String], shelf: &mut F) -> Result<Performance, Refusal>
+fn perform_words<F: Shelf>(
+    alloc: Global,
+    words: &[String],
+    shelf: &mut F,
+) -> Result<Performance, Refusal>
     ensures { MatchResult result
         (λ performance. (p : Prints) × IsAccepted (map string_bytes words.now) (record { held = F.holds shelf.old; before = F.faults shelf.old; after = F.faults shelf.new }) p × IsPerformance p performance)
         (IsDue (map string_bytes words.now) (record { held = F.holds shelf.old; before = F.faults shelf.old; after = F.faults shelf.new })) }

@@ -7,7 +7,6 @@ mod output;
 mod performance;
 mod reader;
 mod refusal;
-
 mod report;
 mod runner;
 mod telling;
@@ -17,6 +16,6 @@ pub use command::campl;
 pub use gate::{Gate, OpenGate};
 pub use reader::{Printer, read_printer};
 pub use refusal::{Refusal, SOURCE_LIMIT};
-pub use telling::refuse;
 pub use report::{Ended, Report};
+pub use telling::refuse;
 pub use words::file_of;

@@ -8,9 +8,9 @@ ghost use Rattle.campl_cli.specs.Refusals.{write_fault_line};
 
 use crate::output::output;
 use crate::reader::Printer;
-use crate::telling::WRITE_FAULT;
 use crate::report::{Ended, Report};
 use crate::runner::run;
+use crate::telling::WRITE_FAULT;
 use campl_config::Journal;
 use campl_text::{Sink, write_all_of};
 use std::alloc::{AllocError, Global};

@@ -12,10 +12,12 @@ use std::alloc::{AllocError, Global};
 
 /// The numbers of the constructors of `Console`, by their lines.
 const CONSOLE_PUT: u32 = 0;
+
 const CONSOLE_CLOSE: u32 = 2;
 
 /// `run` is process 0 and its console's service is 1; of their channel `run` has end 0 and the service has end 1.
 const RUN: u32 = 0;
+
 const SERVICE: u32 = 1;
 
 /// Makes the whole run of a process that prints these texts on its console, closes it and halts: first all actions of the
@@ -27,10 +29,20 @@ pub fn run(alloc: Global, texts: &[String]) -> Result<Journal, AllocError>
 {
     let mut journal = Journal::new(alloc);
     send_all(alloc, texts, &mut journal)?;
-    record(&mut journal, RUN, Kind::Pick, Some(Message::Pick(CONSOLE_CLOSE)))?;
+    record(
+        &mut journal,
+        RUN,
+        Kind::Pick,
+        Some(Message::Pick(CONSOLE_CLOSE)),
+    )?;
     record(&mut journal, RUN, Kind::Halt, None)?;
     take_all(alloc, texts, &mut journal)?;
-    record(&mut journal, SERVICE, Kind::ServePick, Some(Message::Pick(CONSOLE_CLOSE)))?;
+    record(
+        &mut journal,
+        SERVICE,
+        Kind::ServePick,
+        Some(Message::Pick(CONSOLE_CLOSE)),
+    )?;
     Ok(journal)
 }
 
@@ -56,8 +68,18 @@ fn take_all(alloc: Global, texts: &[String], journal: &mut Journal) -> Result<()
     ensures weight { OnOk result (weight_of journal.new.entries ≡ weight_of journal.old.entries + 2 * length texts.now) }
 {
     for text in texts {
-        record(journal, SERVICE, Kind::ServePick, Some(Message::Pick(CONSOLE_PUT)))?;
-        record(journal, SERVICE, Kind::ServeText, Some(word(alloc, text.as_str())?))?;
+        record(
+            journal,
+            SERVICE,
+            Kind::ServePick,
+            Some(Message::Pick(CONSOLE_PUT)),
+        )?;
+        record(
+            journal,
+            SERVICE,
+            Kind::ServeText,
+            Some(word(alloc, text.as_str())?),
+        )?;
     }
     Ok(())
 }
@@ -74,7 +96,12 @@ fn word(alloc: Global, text: &str) -> Result<Message, AllocError>
 }
 
 // One reduction at the console's channel goes into the journal.
-fn record(journal: &mut Journal, process: u32, kind: Kind, message: Option<Message>) -> Result<(), AllocError>
+fn record(
+    journal: &mut Journal,
+    process: u32,
+    kind: Kind,
+    message: Option<Message>,
+) -> Result<(), AllocError>
     requires { weight_of journal.old.entries + 1 < 2 ^ 64 }
     ensures told { OnOk result (plain_entries journal.new.entries ≡ plain_entries journal.old.entries ++ entry process (plain_kind kind) process (option_map told message) ∷ []) }
     ensures weight { OnOk result (weight_of journal.new.entries ≡ weight_of journal.old.entries + 1) }
