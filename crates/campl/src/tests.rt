@@ -3,6 +3,7 @@ use super::*;
 use campl_cli::{Ended, Report};
 use campl_text::{MemShelf, MemSink};
 use std::alloc::{AllocError, Global};
+use std::fs;
 use std::test::Fail;
 use std::thread::Threads;
 
@@ -199,5 +200,42 @@ fn a_line_that_cannot_be_written_is_a_failed_write(rt: HostRuntime) -> Result<()
     assert_eq!(rt; answer.report.status, 6);
     assert!(rt; answer.err.bytes() == b"camp".as_slice());
     assert!(rt; answer.out.bytes().is_empty());
+    Ok(())
+}
+
+#[test]
+fn the_system_gives_faults(rt: HostRuntime) -> Result<(), Fail> {
+    for file in ["/", "/no/such/file"] {
+        let words = command(rt.alloc(), &["run", file])?;
+        let (mut out, mut err) = (sink(rt.alloc())?, sink(rt.alloc())?);
+        let mut shelf = FileShelf::new(&rt);
+        let report = campl(
+            &rt,
+            rt.alloc(),
+            &words,
+            &mut shelf,
+            &mut out,
+            &mut err,
+            &OpenGate,
+        );
+        assert_eq!(rt; report.status, 5, "of {file}");
+        assert!(rt; out.bytes().is_empty());
+    }
+    let mut shelf = MemShelf::new(rt.alloc());
+    shelf.put("source", HELLO.as_bytes())?;
+    let words = command(rt.alloc(), &["run", "source"])?;
+    let mut full = StdSink::new(fs::create(&rt, "/dev/full")?);
+    let mut err = sink(rt.alloc())?;
+    let report = campl(
+        &rt,
+        rt.alloc(),
+        &words,
+        &mut shelf,
+        &mut full,
+        &mut err,
+        &OpenGate,
+    );
+    assert_eq!(rt; report.status, 6);
+    assert!(rt; err.bytes() == b"campl: write fault\n".as_slice());
     Ok(())
 }
