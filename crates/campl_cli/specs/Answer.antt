@@ -23,6 +23,10 @@ pub record Stream : Type 0 where
   pub faults_before : ℕ
   pub faults_after : ℕ
 
+-- a stream of whatever type, by what contracts see of it
+abbrev pub stream : {S : Type 0} → (written : S → Option (List ℕ)) → (faults : S → ℕ) → (old new : S) → Stream
+stream written faults old new = record { before = written old; after = written new; faults_before = faults old; faults_after = faults new }
+
 -- it has had nothing in this call
 abbrev pub HadNothing : Stream → Type 0
 HadNothing s = s.after ≡ s.before
