@@ -69,6 +69,21 @@ front-place : {T K P : Type 0} (s : Terminals T K P) (u us ts : List T) → ts �
 front-place s [] us ts e h = absurd (omega (arith, ap length e))
 front-place s (t ∷ u) us ts e h = ap (place_at s) e
 
+module _ {T K P : Type 0} (s : Terminals T K P) (N : Type 0) (Sem : N → Type 0) where
+  -- a piece that can be finished
+  abbrev pub Lives : {A : Type 0} → ((m : N) → ℕ → List (Nested T) → Sem m → Type 0) → Piece T K P N Sem A → Type 0
+  Lives {A} h g = (d : ℕ) → (w : List (Nested T)) × (x : A) × grammar.Has s N Sem h g d w x
+
+  -- each piece that something stands before can be finished
+  abbrev pub AllLive : {A : Type 0} → ((m : N) → ℕ → List (Nested T) → Sem m → Type 0) → Piece T K P N Sem A → Type 0
+  AllLive h (tok k) = Unit {0}
+  AllLive h (pure x) = Unit {0}
+  AllLive h (seq f a b) = AllLive h a × AllLive h b × Lives h b
+  AllLive h (alt a b) = AllLive h a × AllLive h b
+  AllLive h (deeper g) = AllLive h g
+  AllLive h (at g) = AllLive h g
+  AllLive h (nt m) = Unit {0}
+
 module _ {T K P : Type 0} (s : Terminals T K P) (N : Type 0) (Sem : N → Type 0) (tables : Tables K N) (same : K → K → Bool) (laws : Distinct s same) (limit : ℕ) where
   abbrev Reader : Type 0
   Reader = (m : N) → ℕ → List T → Outcome T (Sem m)
@@ -99,22 +114,8 @@ module _ {T K P : Type 0} (s : Terminals T K P) (N : Type 0) (Sem : N → Type 0
     pub local : (z : List T) → Alike o.1 z → by r g d (u ++ z) ≡ (o.0, z)
     pub means : Means h g d u o
 
-  -- a piece that can be finished
-  abbrev pub Lives : {A : Type 0} → Meaning → Piece T K P N Sem A → Type 0
-  Lives {A} h g = (d : ℕ) → (w : List (Nested T)) × (x : A) × Has h g d w x
-
   abbrev placed : {A : Type 0} → Piece T K P N Sem A → Bool
   placed = tests.placed tables
-
-  -- each piece that something stands before can be finished
-  abbrev pub AllLive : {A : Type 0} → Meaning → Piece T K P N Sem A → Type 0
-  AllLive h (tok k) = Unit {0}
-  AllLive h (pure x) = Unit {0}
-  AllLive h (seq f a b) = AllLive h a × AllLive h b × Lives h b
-  AllLive h (alt a b) = AllLive h a × AllLive h b
-  AllLive h (deeper g) = AllLive h g
-  AllLive h (at g) = AllLive h g
-  AllLive h (nt m) = Unit {0}
 
   module _ (r : Reader) (h : Meaning) (short : fuel.LeavesAll s N Sem tables limit r)
       (all : (m : N) (d : ℕ) (ts : List T) → Good r h (nt m) d ts (r m d ts)) where
@@ -186,7 +187,7 @@ module _ {T K P : Type 0} (s : Terminals T K P) (N : Type 0) (Sem : N → Type 0
         (x, gb.means.2, ga.means.0, gb.means.0 ++ gb.means.1, ga.means.3, gb.means.5, append_assoc ga.means.0 gb.means.0 gb.means.1, refl), gb.means.6);
     }
 
-    good-seq : {A B C : Type 0} (f : A → B → C) (a : Piece T K P N Sem A) (b : Piece T K P N Sem B) → Lives h b → (d : ℕ) (ts : List T)
+    good-seq : {A B C : Type 0} (f : A → B → C) (a : Piece T K P N Sem A) (b : Piece T K P N Sem B) → Lives s N Sem h b → (d : ℕ) (ts : List T)
         (o : Outcome T A) → Good r h a d ts o → ((us : List T) → Good r h b d us (by r b d us))
         → Good r h (seq f a b) d ts (and_then o (λ x us. and_then (by r b d us) (λ y vs. (Ok (f x y), vs))))
     good-seq f a b live d ts (Err e, us) ga gb = let m = ga.means in let y = live d in record {
@@ -242,7 +243,7 @@ module _ {T K P : Type 0} (s : Terminals T K P) (N : Type 0) (Sem : N → Type 0
       means = (m.0, m.1, m.2 (place_at s (bare (m.0 ++ m.1))), m.3, m.4, (m.2, m.5, refl), m.6);
     }
 
-    pub good : {A : Type 0} (g : Piece T K P N Sem A) → AllLive h g → placed g ≡ true → (d : ℕ) (ts : List T) → Good r h g d ts (by r g d ts)
+    pub good : {A : Type 0} (g : Piece T K P N Sem A) → AllLive s N Sem h g → placed g ≡ true → (d : ℕ) (ts : List T) → Good r h g d ts (by r g d ts)
     good (tok k) live place d [] = good-none k d
     good (tok k) live place d (t ∷ ts) = good-tok k d t ts (s.fits k t) (nat_le d limit) refl refl
     good (pure x) live place d ts = record { u = []; split = refl; local = λ z e. refl; means = ([], refl, tt, (refl, refl)) }

@@ -2,3 +2,7 @@ pub mod Sets
 pub mod Fuel
 pub mod Found
 pub mod Only
+pub mod Verdict
+pub mod Passed
+pub mod Lives
+pub mod Exact
