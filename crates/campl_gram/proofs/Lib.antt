@@ -6,3 +6,4 @@ pub mod Verdict
 pub mod Passed
 pub mod Lives
 pub mod Exact
+pub mod Balance

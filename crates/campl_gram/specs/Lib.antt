@@ -2,3 +2,4 @@ pub mod Grammar
 pub mod Reading
 pub mod Verdicts
 pub mod Tests
+pub mod Brackets
