@@ -3,3 +3,5 @@ pub mod Reading
 pub mod Verdicts
 pub mod Tests
 pub mod Brackets
+pub mod OneKind
+pub mod Example

@@ -2,5 +2,7 @@
 #![tactic(auto)]
 
 mod fault;
+mod laws;
 
 pub use fault::Fault;
+pub use laws::{one_tree, Grammar};
