@@ -201,11 +201,11 @@ module _ {T K P : Type 0} (s : Terminals T K P) (opening closing : K) where
             let never : Some 0 ≡ Some (suc middle.0) = sym front ∙ opened in cc
 
         -- The fault of a balanced list that has a token stands at a token.
-        pub fault-at-token : (limit : ℕ) (m : N) → Encloses same opening closing (rule m) → (t : T) (ts : List T) → Balanced s opening closing (t ∷ ts)
-            → (e : Fault) (r : List T) → Answers limit (grammar.IsProgram s N Sem rule m) (t ∷ ts) (Err e, r) → (x : T) × (more : List T) × (r ≡ x ∷ more)
-        fault-at-token limit m around t ts balance e (x ∷ r) told = (x, r, refl)
-        fault-at-token limit m around t ts balance TooDeep [] told = absurd told.3
-        fault-at-token limit m around t ts balance Unexpected [] told =
+        pub fault-at-token : (limit : ℕ) (m : N) → Encloses same opening closing (rule m) → (t : T) (ts : List T) (e : Fault) (r : List T)
+            → Balanced s opening closing (t ∷ ts) → Answers limit (grammar.IsProgram s N Sem rule m) (t ∷ ts) (Err e, r) → (x : T) × (more : List T) × (r ≡ x ∷ more)
+        fault-at-token limit m around t ts e (x ∷ r) balance told = (x, r, refl)
+        fault-at-token limit m around t ts TooDeep [] balance told = absurd told.3
+        fault-at-token limit m around t ts Unexpected [] balance told =
             let begun = told.2 in absurd (by begun.0 begun.1 begun.2 begun.5 (begun.3 ∙ sym (append-nil told.0) ∙ sym told.1) begun.3)
           where
             by : (w more : List (Nested T)) (x : Sem m) → grammar.IsProgram s N Sem rule m (w ++ more) x → bare w ≡ t ∷ ts → bare w ≡ told.0 → ⊥
