@@ -7,3 +7,5 @@ pub mod Passed
 pub mod Lives
 pub mod Exact
 pub mod Balance
+pub mod Induction
+mod Examples

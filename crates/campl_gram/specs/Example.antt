@@ -119,11 +119,11 @@ abbrev pub Part : Type 0 → Type 1
 Part = Piece Token Kind ℕ Name Value
 
 abbrev pub rule : (m : Name) → Part (Value m)
-rule program = LBrace ▸ (deeper (nt sums) ◂ RBrace)
+rule program = LBrace ▸ deeper (nt sums ◂ RBrace)
 rule sums = alt (list (nt sum) (nt more)) (pure [])
 rule more = alt (Comma ▸ deeper (list (nt sum) (nt more))) (pure [])
 rule sum = at (into (nt atom) (alt ((λ y x p. Sum p x y) <$> Plus ▸ deeper (nt sum)) (pure (λ x p. x))))
-rule atom = alt ((λ t. Leaf t.value) <$> tok Number) (LParen ▸ (deeper (nt sum) ◂ RParen))
+rule atom = alt ((λ t. Leaf t.value) <$> tok Number) (LParen ▸ deeper (nt sum ◂ RParen))
 
 -- ---- the tables
 
