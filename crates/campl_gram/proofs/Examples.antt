@@ -6,7 +6,7 @@ use Rattle.campl_gram.specs.Reading.{Outcome, read}
 use Rattle.campl_gram.specs.Verdicts.{finish}
 use Rattle.campl_gram.specs.Tests.{wrongs, Undecided, Rank, Tall}
 use Rattle.campl_gram.specs.Example.{Kind, Number, Plus, Comma, LParen, RParen, LBrace, RBrace, same, Token, terminals, Tree, Leaf, Sum, size, Name, program, sums, more, sum, atom, Value, rule, tables}
-use Rattle.campl_gram.proofs.Induction as induction
+use Rattle.campl_gram.proofs.Induction.{Measured, measured-tok, measured-pure, measured-seq, measured-alt, measured-deeper, measured-at, measured-name, by_tokens}
 
 -- a token that is no number
 abbrev mark : Kind → ℕ → Token
@@ -78,6 +78,45 @@ Small sums xs n = sizes xs ≤ n
 Small more xs n = sizes xs ≤ n
 Small sum x n = size x ≤ n
 Small atom x n = size x ≤ n
+
+-- a token is one token
+abbrev One : Token → ℕ → Type 0
+One t n = 1 ≤ n
+
+-- what has a name
+abbrev has_name : (m : Name) → Measured terminals Small (nt m) (Small m)
+has_name m = measured-name Small m
+
+-- each rule adds no more nodes than tokens
+each : (m : Name) → Measured terminals Small (rule m) (Small m)
+each program =
+    measured-seq One (λ xs n. sizes xs + 1 ≤ n) (measured-tok (λ t. omega arith))
+    (measured-deeper (measured-seq (Small sums) One (has_name sums) (measured-tok (λ t. omega arith)) (λ x y i j h k. omega arith)))
+    (λ x y i j h k. omega arith)
+each sums = measured-alt (measured-seq (Small sum) (Small more) (has_name sum) (has_name more) (λ x y i j h k. omega arith)) (measured-pure (omega arith))
+each more =
+    measured-alt
+    (measured-seq One (Small sums) (measured-tok (λ t. omega arith))
+      (measured-deeper (measured-seq (Small sum) (Small more) (has_name sum) (has_name more) (λ x y i j h k. omega arith))) (λ x y i j h k. omega arith))
+    (measured-pure (omega arith))
+each sum =
+    measured-at
+    (measured-seq (Small atom) (λ f n. (x : Tree) (p : ℕ) → size (f x p) ≤ size x + n) (has_name atom)
+      (measured-alt
+        (measured-seq (λ y n. size y + 1 ≤ n) (λ u n. Unit {0})
+          (measured-seq One (Small sum) (measured-tok (λ t. omega arith)) (measured-deeper (has_name sum)) (λ x y i j h k. omega arith))
+          (measured-pure tt) (λ y u i j h k x p. omega arith))
+        (measured-pure (λ x p. omega arith)))
+      (λ x f i j h k p. let e : size (f x p) ≤ size x + j = k x p in omega arith))
+each atom =
+    measured-alt
+    (measured-seq One (λ u n. Unit {0}) (measured-tok (λ t. omega arith)) (measured-pure tt) (λ x y i j h k. omega arith))
+    (measured-seq One (Small sum) (measured-tok (λ t. omega arith))
+      (measured-deeper (measured-seq (Small sum) One (has_name sum) (measured-tok (λ t. omega arith)) (λ x y i j h k. omega arith))) (λ x y i j h k. omega arith))
+
+-- A program's trees have at least two nodes less than it has tokens.
+program_is_small : (w : List (Nested Token)) (xs : List Tree) → IsProgram terminals Name Value rule program w xs → sizes xs + 2 ≤ length w
+program_is_small w xs p = by_tokens each program 0 w xs p
 
 -- ---- a grammar that doesn't pass
 
