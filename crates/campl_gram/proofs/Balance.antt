@@ -133,9 +133,11 @@ module _ {T K P : Type 0} (s : Terminals T K P) (opening closing : K) where
         by false is = laws.apart j k t is f
 
     module _ (N : Type 0) (Sem : N → Type 0) where
+      -- the pieces of this grammar
       abbrev Has : {A : Type 0} → ((m : N) → ℕ → List (Nested T) → Sem m → Type 0) → Piece T K P N Sem A → ℕ → List (Nested T) → A → Type 0
       Has = grammar.Has s N Sem
 
+      -- where one is after a piece
       abbrev after : {A : Type 0} → Piece T K P N Sem A → Spot → Option Spot
       after = through same opening closing
 

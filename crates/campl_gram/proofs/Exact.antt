@@ -23,15 +23,19 @@ use Rattle.campl_gram.proofs.Lives as lives
 
 module _ {T K P : Type 0} (s : Terminals T K P) (N : Type 0) (Sem : N → Type 0) (rule : (m : N) → Piece T K P N Sem (Sem m)) (tables : Tables K N)
     (same : K → K → Bool) (laws : Distinct s same) (passes : Passes same tables rule) where
+  -- what the grammar says, by a derivation of a height below n
   abbrev Says : ℕ → (m : N) → ℕ → List (Nested T) → Sem m → Type 0
   Says = grammar.Says s N Sem rule
 
+  -- what the grammar says
   abbrev IsA : (m : N) → ℕ → List (Nested T) → Sem m → Type 0
   IsA = grammar.IsA s N Sem rule
 
+  -- the same of a whole text
   abbrev IsProgram : (m : N) → List (Nested T) → Sem m → Type 0
   IsProgram = grammar.IsProgram s N Sem rule
 
+  -- what it says of a piece
   abbrev Has : {A : Type 0} → ((m : N) → ℕ → List (Nested T) → Sem m → Type 0) → Piece T K P N Sem A → ℕ → List (Nested T) → A → Type 0
   Has = grammar.Has s N Sem
 
@@ -39,25 +43,32 @@ module _ {T K P : Type 0} (s : Terminals T K P) (N : Type 0) (Sem : N → Type 0
   passed : (m : N) → Passed N Sem same tables rule m
   passed m = passing.passed N Sem same tables rule m (passes m)
 
+  -- the height of the derivations of what is read
   abbrev level : ℕ → ℕ
   level = lives.level s N Sem rule tables same laws passed
 
+  -- no rank is above all
   low : (m : N) → tables.rank m < tables.ranks
   low m = (passed m).low
 
+  -- a rule leads no higher than its name
   leads : (m : N) → tests.lead tables (rule m) ≤ tables.rank m
   leads m = (passed m).leads
 
+  -- the table tells which name may have no token
   nuls : (m : N) → reading.nullable tables (rule m) ≡ tables.nul m
   nuls m = (passed m).nuls
 
   module _ (limit : ℕ) where
+    -- reads a piece
     abbrev by : {A : Type 0} → ((m : N) → ℕ → List T → Outcome T (Sem m)) → Piece T K P N Sem A → ℕ → List T → Outcome T A
     by = reading.read_by s N Sem tables limit
 
+    -- reads a name to a height
     abbrev below : ℕ → (m : N) → ℕ → List T → Outcome T (Sem m)
     below = reading.read_below s N Sem tables limit rule
 
+    -- reads a name
     abbrev read : (m : N) → ℕ → List T → Outcome T (Sem m)
     read = reading.read s N Sem tables limit rule
 
@@ -71,6 +82,7 @@ module _ {T K P : Type 0} (s : Terminals T K P) (N : Type 0) (Sem : N → Type 0
 
     -- ---- what is read
 
+    -- all that is shown of an outcome
     abbrev Good : {A : Type 0} → ((m : N) → ℕ → List T → Outcome T (Sem m)) → ((m : N) → ℕ → List (Nested T) → Sem m → Type 0) → Piece T K P N Sem A → ℕ → List T → Outcome T A → Type 0
     Good = found.Good s N Sem tables same laws limit
 

@@ -85,21 +85,27 @@ module _ {T K P : Type 0} (s : Terminals T K P) (N : Type 0) (Sem : N → Type 0
   AllLive h (nt m) = Unit {0}
 
 module _ {T K P : Type 0} (s : Terminals T K P) (N : Type 0) (Sem : N → Type 0) (tables : Tables K N) (same : K → K → Bool) (laws : Distinct s same) (limit : ℕ) where
+  -- something that reads each name
   abbrev Reader : Type 0
   Reader = (m : N) → ℕ → List T → Outcome T (Sem m)
 
+  -- something said of the tokens of each name
   abbrev Meaning : Type 1
   Meaning = (m : N) → ℕ → List (Nested T) → Sem m → Type 0
 
+  -- reads a piece
   abbrev by : {A : Type 0} → Reader → Piece T K P N Sem A → ℕ → List T → Outcome T A
   by = reading.read_by s N Sem tables limit
 
+  -- whether a piece may have no token
   abbrev may : {A : Type 0} → Piece T K P N Sem A → Bool
   may = reading.nullable tables
 
+  -- the kinds with which it may begin
   abbrev firsts : {A : Type 0} → Piece T K P N Sem A → List K
   firsts = reading.first tables
 
+  -- what is said of a piece
   abbrev Has : {A : Type 0} → Meaning → Piece T K P N Sem A → ℕ → List (Nested T) → A → Type 0
   Has = grammar.Has s N Sem
 
@@ -108,17 +114,22 @@ module _ {T K P : Type 0} (s : Terminals T K P) (N : Type 0) (Sem : N → Type 0
   Means h g d u (Ok x, us) = (w : List (Nested T)) × (bare w ≡ u) × Shallow limit w × Has h g d w x
   Means {A} h g d u (Err e, us) = (w : List (Nested T)) × (more : List (Nested T)) × (x : A) × (bare w ≡ u) × Shallow limit w × Has h g d (w ++ more) x × Breaks limit e us more
 
+  -- All that is shown of an outcome.
   pub record Good {A : Type 0} (r : Reader) (h : Meaning) (g : Piece T K P N Sem A) (d : ℕ) (ts : List T) (o : Outcome T A) : Type 0 where
+    -- the tokens that were read
     pub u : List T
     pub split : ts ≡ u ++ o.1
+    -- the outcome depends on no token behind the refused one
     pub local : (z : List T) → Alike o.1 z → by r g d (u ++ z) ≡ (o.0, z)
     pub means : Means h g d u o
 
+  -- no place is wanted of no token
   abbrev placed : {A : Type 0} → Piece T K P N Sem A → Bool
   placed = tests.placed tables
 
   module _ (r : Reader) (h : Meaning) (short : fuel.LeavesAll s N Sem tables limit r)
       (all : (m : N) (d : ℕ) (ts : List T) → Good r h (nt m) d ts (r m d ts)) where
+    -- a token that is wanted at the end
     good-none : (k : K) (d : ℕ) → Good r h (tok k) d [] (Err Unexpected, [])
     good-none k d = record {
       u = [];
@@ -131,6 +142,7 @@ module _ {T K P : Type 0} (s : Terminals T K P) (N : Type 0) (Sem : N → Type 0
         same-end [] e = refl
         same-end (t ∷ z) e = absurd e
 
+    -- a token that is wanted and one that is there
     good-tok : (k : K) (d : ℕ) (t : T) (ts : List T) (b c : Bool) → s.fits k t ≡ b → nat_le d limit ≡ c
         → Good r h (tok k) d (t ∷ ts) (if b then (if c then (Ok t, ts) else (Err TooDeep, t ∷ ts)) else (Err Unexpected, t ∷ ts))
     good-tok k d t ts true true e l = record {
@@ -160,6 +172,7 @@ module _ {T K P : Type 0} (s : Terminals T K P) (N : Type 0) (Sem : N → Type 0
         other [] al = absurd al
         other (x ∷ z) al = let e' : s.fits k x ≡ false = ap (λ y. s.fits k y) (sym al) ∙ e in rw e'
 
+    -- two pieces read depend on no more than the second does
     two-local : {A B C : Type 0} (f : A → B → C) (a : Piece T K P N Sem A) (b : Piece T K P N Sem B) (d : ℕ) (ts : List T) (x : A) (us : List T) (o : Outcome T B)
         (ga : Good r h a d ts (Ok x, us)) (gb : Good r h b d us o) (z : List T) → Alike o.1 z
         → by r (seq f a b) d ((ga.u ++ gb.u) ++ z) ≡ and_then (o.0, z) (λ y vs. (Ok (f x y), vs))
@@ -169,6 +182,7 @@ module _ {T K P : Type 0} (s : Terminals T K P) (N : Type 0) (Sem : N → Type 0
           (ga.local (gb.u ++ z) (subst (λ l. Alike l (gb.u ++ z)) (sym gb.split) (alike-after gb.u o.1 z al)))
         ∙ ap (λ o. and_then o (λ y vs. (Ok (f x y), vs))) (gb.local z al)
 
+    -- a piece read behind another
     good-two : {A B C : Type 0} (f : A → B → C) (a : Piece T K P N Sem A) (b : Piece T K P N Sem B) (d : ℕ) (ts : List T) (x : A) (us : List T)
         (o : Outcome T B) → Good r h a d ts (Ok x, us) → Good r h b d us o → Good r h (seq f a b) d ts (and_then o (λ y vs. (Ok (f x y), vs)))
     good-two f a b d ts x us (Ok y, vs) ga gb = record {
@@ -187,6 +201,7 @@ module _ {T K P : Type 0} (s : Terminals T K P) (N : Type 0) (Sem : N → Type 0
         (x, gb.means.2, ga.means.0, gb.means.0 ++ gb.means.1, ga.means.3, gb.means.5, append_assoc ga.means.0 gb.means.0 gb.means.1, refl), gb.means.6);
     }
 
+    -- the one and then the other
     good-seq : {A B C : Type 0} (f : A → B → C) (a : Piece T K P N Sem A) (b : Piece T K P N Sem B) → Lives s N Sem h b → (d : ℕ) (ts : List T)
         (o : Outcome T A) → Good r h a d ts o → ((us : List T) → Good r h b d us (by r b d us))
         → Good r h (seq f a b) d ts (and_then o (λ x us. and_then (by r b d us) (λ y vs. (Ok (f x y), vs))))
@@ -198,18 +213,22 @@ module _ {T K P : Type 0} (s : Terminals T K P) (N : Type 0) (Sem : N → Type 0
     }
     good-seq f a b live d ts (Ok x, us) ga gb = good-two f a b d ts x us (by r b d us) ga (gb us)
 
+    -- what the one means both mean
     means-left : {A : Type 0} (a b : Piece T K P N Sem A) (d : ℕ) (u : List T) (o : Outcome T A) → Means h a d u o → Means h (alt a b) d u o
     means-left a b d u (Ok x, us) m = (m.0, m.1, m.2, inl m.3)
     means-left a b d u (Err e, us) m = (m.0, m.1, m.2, m.3, m.4, inl m.5, m.6)
 
+    -- what the other means both mean
     means-right : {A : Type 0} (a b : Piece T K P N Sem A) (d : ℕ) (u : List T) (o : Outcome T A) → Means h b d u o → Means h (alt a b) d u o
     means-right a b d u (Ok x, us) m = (m.0, m.1, m.2, inr m.3)
     means-right a b d u (Err e, us) m = (m.0, m.1, m.2, m.3, m.4, inr m.5, m.6)
 
+    -- what a piece means one deeper
     means-deeper : {A : Type 0} (g : Piece T K P N Sem A) (d : ℕ) (u : List T) (o : Outcome T A) → Means h g (suc d) u o → Means h (deeper g) d u o
     means-deeper g d u (Ok x, us) m = m
     means-deeper g d u (Err e, us) m = m
 
+    -- the one or the other
     good-alt : {A : Type 0} (a b : Piece T K P N Sem A) (d : ℕ) (ts : List T) (c : Bool) → next_in s (firsts a) ts ≡ c
         → Good r h a d ts (by r a d ts) → Good r h b d ts (by r b d ts) → Good r h (alt a b) d ts (if c then by r a d ts else by r b d ts)
     good-alt a b d ts true e ga gb = record {
@@ -227,6 +246,7 @@ module _ {T K P : Type 0} (s : Terminals T K P) (N : Type 0) (Sem : N → Type 0
       means = means-right a b d gb.u (by r b d ts) gb.means;
     }
 
+    -- a piece with its place
     good-at : {A : Type 0} (g : Piece T K P N Sem (P → A)) (d : ℕ) (ts : List T) (o : Outcome T (P → A)) → Leaves false o ts → Good r h g d ts o
         → Good r h (at g) d ts (and_then o (λ f us. (Ok (f (place_at s ts)), us)))
     good-at g d ts (Ok f, us) l gg = record {
@@ -243,6 +263,7 @@ module _ {T K P : Type 0} (s : Terminals T K P) (N : Type 0) (Sem : N → Type 0
       means = (m.0, m.1, m.2 (place_at s (bare (m.0 ++ m.1))), m.3, m.4, (m.2, m.5, refl), m.6);
     }
 
+    -- A piece is read as it should be, if names are.
     pub good : {A : Type 0} (g : Piece T K P N Sem A) → AllLive s N Sem h g → placed g ≡ true → (d : ℕ) (ts : List T) → Good r h g d ts (by r g d ts)
     good (tok k) live place d [] = good-none k d
     good (tok k) live place d (t ∷ ts) = good-tok k d t ts (s.fits k t) (nat_le d limit) refl refl

@@ -64,18 +64,23 @@ module _ {T K P : Type 0} (s : Terminals T K P) (N : Type 0) (Sem : N → Type 0
   abbrev pub Reader : Type 0
   Reader = (m : N) → ℕ → List T → Outcome T (Sem m)
 
+  -- whether a piece may have no token
   abbrev pub may : {A : Type 0} → Piece T K P N Sem A → Bool
   may = reading.nullable tables
 
+  -- how high a piece leads
   abbrev pub lead : {A : Type 0} → Piece T K P N Sem A → ℕ
   lead = tests.lead tables
 
+  -- reads a piece
   abbrev pub by : {A : Type 0} → Reader → Piece T K P N Sem A → ℕ → List T → Outcome T A
   by = reading.read_by s N Sem tables limit
 
+  -- the kinds with which it may begin
   abbrev firsts : {A : Type 0} → Piece T K P N Sem A → List K
   firsts = reading.first tables
 
+  -- a name takes a token unless it may have none
   abbrev pub LeavesAll : Reader → Type 0
   LeavesAll r = (m : N) (d : ℕ) (ts : List T) → Leaves (tables.nul m) (r m d ts) ts
 
@@ -91,6 +96,7 @@ module _ {T K P : Type 0} (s : Terminals T K P) (N : Type 0) (Sem : N → Type 0
   leaves r h (at g) d ts = leaves-map (may g) (by r g d ts) (λ f. f (place_at s ts)) ts (leaves r h g d ts)
   leaves r h (nt m) d ts = h m d ts
 
+  -- two readers agree below a height
   abbrev Agrees : Reader → Reader → ℕ → Type 0
   Agrees r z w = (m : N) (d : ℕ) (ts : List T) → tables.rank m + tables.ranks * length ts < w → r m d ts ≡ z m d ts
 
@@ -134,9 +140,11 @@ module _ {T K P : Type 0} (s : Terminals T K P) (N : Type 0) (Sem : N → Type 0
     agree r z w h l (nt m) d ts e = h m d ts (omega arith)
 
     module _ (rule : (m : N) → Piece T K P N Sem (Sem m)) (leads : (m : N) → lead (rule m) ≤ tables.rank m) (nuls : (m : N) → may (rule m) ≡ tables.nul m) where
+      -- reads a name to a height
       abbrev pub below : ℕ → Reader
       below = reading.read_below s N Sem tables limit rule
 
+      -- reads a name
       abbrev pub read : Reader
       read = reading.read s N Sem tables limit rule
 

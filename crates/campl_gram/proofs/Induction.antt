@@ -8,6 +8,7 @@ module _ {T K P : Type 0} (s : Terminals T K P) (N : Type 0) (Sem : N → Type 0
   abbrev Meaning : Type 1
   Meaning = (m : N) → ℕ → List (Nested T) → Sem m → Type 0
 
+  -- what is said of a piece
   abbrev Has : {A : Type 0} → Meaning → Piece T K P N Sem A → ℕ → List (Nested T) → A → Type 0
   Has = grammar.Has s N Sem
 

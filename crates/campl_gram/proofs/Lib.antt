@@ -7,5 +7,6 @@ pub mod Passed
 pub mod Lives
 pub mod Exact
 pub mod Balance
+pub mod Lists
 pub mod Induction
 mod Examples

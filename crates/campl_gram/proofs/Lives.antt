@@ -18,27 +18,33 @@ min-split (suc x) (suc y) (suc n) h =
 
 module _ {T K P : Type 0} (s : Terminals T K P) (N : Type 0) (Sem : N → Type 0) (rule : (m : N) → Piece T K P N Sem (Sem m)) (tables : Tables K N)
     (same : K → K → Bool) (laws : Distinct s same) (passed : (m : N) → Passed N Sem same tables rule m) where
+  -- what the grammar says, by a derivation of a height below n
   abbrev Says : ℕ → (m : N) → ℕ → List (Nested T) → Sem m → Type 0
   Says = grammar.Says s N Sem rule
 
+  -- what it says of a piece
   abbrev Has : {A : Type 0} → ((m : N) → ℕ → List (Nested T) → Sem m → Type 0) → Piece T K P N Sem A → ℕ → List (Nested T) → A → Type 0
   Has = grammar.Has s N Sem
 
+  -- how high the least derivation of a piece may be
   abbrev cost : {A : Type 0} → Piece T K P N Sem A → ℕ
   cost = tests.cost tables
 
+  -- a piece can be finished
   abbrev Lives : {A : Type 0} → ((m : N) → ℕ → List (Nested T) → Sem m → Type 0) → Piece T K P N Sem A → Type 0
   Lives = found.Lives s N Sem
+
+  -- two pieces that can be finished, one behind the other
+  two-live : {A B C : Type 0} (h : (m : N) → ℕ → List (Nested T) → Sem m → Type 0) (f : A → B → C) (a : Piece T K P N Sem A) (b : Piece T K P N Sem B) (d : ℕ)
+      → (w : List (Nested T)) × (x : A) × Has h a d w x → (w : List (Nested T)) × (y : B) × Has h b d w y → (w : List (Nested T)) × (z : C) × Has h (seq f a b) d w z
+  two-live h f a b d x y = (x.0 ++ y.0, f x.1 y.1, (x.1, y.1, x.0, y.0, x.2, y.2, refl, refl))
 
   -- a piece can be finished if each name of less height can
   lives-by : {A : Type 0} (h : (m : N) → ℕ → List (Nested T) → Sem m → Type 0) (n : ℕ) → ((m : N) → tables.tall m < n → Lives h (nt m))
       → (g : Piece T K P N Sem A) → cost g ≤ n → Lives h g
   lives-by h n live (tok k) c d = ((laws.sample k, d) ∷ [], laws.sample k, (laws.sampled k, refl))
   lives-by h n live (pure x) c d = ([], x, (refl, refl))
-  lives-by h n live (seq f a b) c d =
-      let x = lives-by h n live a (omega arith) d in
-      let y = lives-by h n live b (omega arith) d in
-      (x.0 ++ y.0, f x.1 y.1, (x.1, y.1, x.0, y.0, x.2, y.2, refl, refl))
+  lives-by h n live (seq f a b) c d = two-live h f a b d (lives-by h n live a (omega arith) d) (lives-by h n live b (omega arith) d)
   lives-by h n live (alt a b) c d = alt-lives h a b d n (min-split (cost a) (cost b) n c) (λ e. lives-by h n live a e) (λ e. lives-by h n live b e)
     where
       alt-lives : {A : Type 0} (h : (m : N) → ℕ → List (Nested T) → Sem m → Type 0) (a b : Piece T K P N Sem A) (d n : ℕ) → (cost a ≤ n) ⊎ (cost b ≤ n)
@@ -72,10 +78,7 @@ module _ {T K P : Type 0} (s : Terminals T K P) (N : Type 0) (Sem : N → Type 0
   lives-at : {A : Type 0} (n : ℕ) (g : Piece T K P N Sem A) → Lives (Says (level n)) g
   lives-at n (tok k) d = ((laws.sample k, d) ∷ [], laws.sample k, (laws.sampled k, refl))
   lives-at n (pure x) d = ([], x, (refl, refl))
-  lives-at n (seq f a b) d =
-      let x = lives-at n a d in
-      let y = lives-at n b d in
-      (x.0 ++ y.0, f x.1 y.1, (x.1, y.1, x.0, y.0, x.2, y.2, refl, refl))
+  lives-at n (seq f a b) d = two-live (Says (level n)) f a b d (lives-at n a d) (lives-at n b d)
   lives-at n (alt a b) d = let x = lives-at n a d in (x.0, x.1, inl x.2)
   lives-at n (deeper g) d = lives-at n g (suc d)
   lives-at n (at g) d = let x = lives-at n g d in (x.0, x.1 (place_at s (bare x.0)), (x.1, x.2, refl))

@@ -17,6 +17,7 @@ module _ {T : Type 0} (limit : ℕ) where
   verdict [] x rest = (Ok x, rest)
   verdict (p ∷ w) x rest = if nat_le p.1 limit then verdict w x rest else (Err TooDeep, p.0 ∷ (bare w ++ rest))
 
+  -- a changed value has the same verdict
   verdict-map : {A B : Type 0} (f : A → B) (w : List (Nested T)) (x : A) (rest : List T)
       → and_then (verdict w x rest) (λ y us. (Ok (f y), us)) ≡ verdict w (f x) rest
   verdict-map f [] x rest = refl
@@ -28,6 +29,7 @@ module _ {T : Type 0} (limit : ℕ) where
       by true e = e
       by false e = refl
 
+  -- the verdict of two lists is that of the second after the first
   verdict-then : {A B : Type 0} (y : B) (k : A → List T → Outcome T B) (p q : List (Nested T)) (x : A) (rest : List T)
       → k x (bare q ++ rest) ≡ verdict q y rest → and_then (verdict p x (bare q ++ rest)) k ≡ verdict (p ++ q) y rest
   verdict-then y k [] q x rest e = e
@@ -41,43 +43,55 @@ module _ {T : Type 0} (limit : ℕ) where
       by true e = e
       by false e = ap (λ l. (Err TooDeep, t.0 ∷ l)) same-rest
 
+-- the place of tokens is that of a front that has a token
 place-front : {T K P : Type 0} (s : Terminals T K P) (w : List (Nested T)) (rest : List T) → (w ≡ [] → ⊥) → place_at s (bare w ++ rest) ≡ place_at s (bare w)
 place-front s [] rest h = absurd (h refl)
 place-front s (p ∷ w) rest h = refl
 
 module _ {T K P : Type 0} (s : Terminals T K P) (N : Type 0) (Sem : N → Type 0) (tables : Tables K N) (same : K → K → Bool) (laws : Distinct s same) (limit : ℕ) where
+  -- something that reads each name
   abbrev Reader : Type 0
   Reader = (m : N) → ℕ → List T → Outcome T (Sem m)
 
+  -- something said of the tokens of each name
   abbrev Meaning : Type 1
   Meaning = (m : N) → ℕ → List (Nested T) → Sem m → Type 0
 
+  -- reads a piece
   abbrev by : {A : Type 0} → Reader → Piece T K P N Sem A → ℕ → List T → Outcome T A
   by = reading.read_by s N Sem tables limit
 
+  -- whether a piece may have no token
   abbrev may : {A : Type 0} → Piece T K P N Sem A → Bool
   may = reading.nullable tables
 
+  -- the kinds with which it may begin
   abbrev firsts : {A : Type 0} → Piece T K P N Sem A → List K
   firsts = reading.first tables
 
+  -- what is said of a piece
   abbrev Has : {A : Type 0} → Meaning → Piece T K P N Sem A → ℕ → List (Nested T) → A → Type 0
   Has = grammar.Has s N Sem
 
+  -- the kinds with which it could go on
   abbrev conts : {A : Type 0} → Piece T K P N Sem A → List K
   conts = tests.goes_on tables
 
+  -- the next token tells which way to go
   abbrev tells : {A : Type 0} → Piece T K P N Sem A → Bool
   tells = tests.decides tables same
 
   module _ (h : Meaning) (nuls : (m : N) (d : ℕ) (x : Sem m) → h m d [] x → tables.nul m ≡ true) where
+    -- equal lists begin alike
     head-is : (p q : Nested T) (v w : List (Nested T)) → p ∷ v ≡ q ∷ w → p ≡ q
     head-is p q v w e = cc
 
+    -- of two lists that make none each is none
     append-none : (p q : List (Nested T)) → [] ≡ p ++ q → (p ≡ []) × (q ≡ [])
     append-none [] q e = (refl, sym e)
     append-none (x ∷ p) q e = cc
 
+    -- only a piece that may have no token has none
     pub may-none : {A : Type 0} (g : Piece T K P N Sem A) (d : ℕ) (w : List (Nested T)) (x : A) → w ≡ [] → Has h g d w x → may g ≡ true
     may-none (tok k) d w x e has = let e' = has.1 in cc
     may-none (pure y) d w x e has = refl
@@ -90,14 +104,17 @@ module _ {T K P : Type 0} (s : Terminals T K P) (N : Type 0) (Sem : N → Type 0
     may-none (at g) d w x e has = may-none g d w has.0 e has.1
     may-none (nt m) d w x e has = nuls m d x (subst (λ v. h m d v x) e has)
 
+    -- a token of the first kinds, with the second or without
     if-front : (c : Bool) (t : T) (ks js : List K) → is_any s ks t ≡ true → is_any s (if c then ks ++ js else ks) t ≡ true
     if-front true t ks js e = is_any-front s ks js t e
     if-front false t ks js e = e
 
+    -- a token of the second kinds, where they count
     if-back : (c : Bool) (t : T) (ks js : List K) → c ≡ true → is_any s js t ≡ true → is_any s (if c then ks ++ js else ks) t ≡ true
     if-back true t ks js c e = is_any-back s ks js t e
     if-back false t ks js c e = cc
 
+    -- the first token of two pieces is one of the first, or of the second if the first may have none
     first-of-two : {A B : Type 0} (a : Piece T K P N Sem A) (b : Piece T K P N Sem B) (d : ℕ) (x : A) (y : B) (u q : List (Nested T)) (p : Nested T) (v : List (Nested T))
         → Has h a d u x → p ∷ v ≡ u ++ q
         → ((w : List (Nested T)) → u ≡ p ∷ w → is_any s (firsts a) p.0 ≡ true) → (q ≡ p ∷ v → is_any s (firsts b) p.0 ≡ true)
@@ -106,6 +123,7 @@ module _ {T K P : Type 0} (s : Terminals T K P) (N : Type 0) (Sem : N → Type 0
     first-of-two a b d x y (t ∷ u) q p v has e fa fb = if-front (may a) p.0 (firsts a) (firsts b) (fa u (let is : t ≡ p = cc in ap (λ z. z ∷ u) is))
 
     module _ (starts : (m : N) (d : ℕ) (p : Nested T) (w : List (Nested T)) (x : Sem m) → h m d (p ∷ w) x → is_any s (tables.starts m) p.0 ≡ true) where
+      -- a piece begins with a kind that it may begin with
       pub first-is : {A : Type 0} (g : Piece T K P N Sem A) (d : ℕ) (w : List (Nested T)) (x : A) → Has h g d w x
           → (p : Nested T) (v : List (Nested T)) → w ≡ p ∷ v → is_any s (firsts g) p.0 ≡ true
       first-is (tok k) d w x has p v e = let is : p ≡ (x, d) = head-is p (x, d) v [] (sym e ∙ has.1) in ap (λ y. s.fits k y.0) is ∙ has.0
@@ -120,6 +138,7 @@ module _ {T K P : Type 0} (s : Terminals T K P) (N : Type 0) (Sem : N → Type 0
 
       module _ (r : Reader) (only : (m : N) (d : ℕ) (w : List (Nested T)) (x : Sem m) (rest : List T)
           → h m d w x → next_in s (tables.conts m) rest ≡ false → r m d (bare w ++ rest) ≡ verdict limit w x rest) where
+        -- a piece that must have a token has one
         with-not : {A : Type 0} (g : Piece T K P N Sem A) (d : ℕ) (w : List (Nested T)) (x : A) → not (may g) ≡ true → Has h g d w x → w ≡ [] → ⊥
         with-not g d w x n has e = true≢false (sym (may-none g d w x e has) ∙ not-true (may g) n)
 
@@ -130,16 +149,19 @@ module _ {T K P : Type 0} (s : Terminals T K P) (N : Type 0) (Sem : N → Type 0
             ap (λ c. next_in s (if c then conts a else []) rest) (sym (may-none b d [] y refl has)) ∙ next-back s (conts b) (if may b then conts a else []) rest n
         over a b d (t ∷ q) y rest apt has n = sets.apart s same laws (firsts b) (conts a) t.0 apt (first-is b d (t ∷ q) y has t q refl)
 
+        -- the first token of the one tells that it is the one
         left : {A : Type 0} (a : Piece T K P N Sem A) (d : ℕ) (w : List (Nested T)) (x : A) (rest : List T) → not (may a) ≡ true → Has h a d w x
             → next_in s (firsts a) (bare w ++ rest) ≡ true
         left a d [] x rest n has = absurd (with-not a d [] x n has refl)
         left a d (t ∷ w) x rest n has = first-is a d (t ∷ w) x has t w refl
 
+        -- the first token of the other tells that it is not the one
         right : {A : Type 0} (a b : Piece T K P N Sem A) (d : ℕ) (w : List (Nested T)) (x : A) (rest : List T) → disjoint same (firsts b) (firsts a) ≡ true → Has h b d w x
             → next_in s (if may b then firsts a else []) rest ≡ false → next_in s (firsts a) (bare w ++ rest) ≡ false
         right a b d [] x rest apt has n = ap (λ c. next_in s (if c then firsts a else []) rest) (sym (may-none b d [] x refl has)) ∙ n
         right a b d (t ∷ w) x rest apt has n = sets.apart s same laws (firsts b) (firsts a) t.0 apt (first-is b d (t ∷ w) x has t w refl)
 
+        -- What a piece has is read, unless the next token could go on with it.
         pub only-by : {A : Type 0} (g : Piece T K P N Sem A) → tells g ≡ true → (d : ℕ) (w : List (Nested T)) (x : A) (rest : List T)
             → Has h g d w x → next_in s (conts g) rest ≡ false → by r g d (bare w ++ rest) ≡ verdict limit w x rest
         only-by (tok k) ok d w x rest has n =

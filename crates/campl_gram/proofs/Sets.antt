@@ -6,6 +6,7 @@ use Rattle.campl_gram.specs.Tests.{Distinct, among, disjoint, within}
 
 -- ---- tests
 
+-- a disjunction with false
 or-false : (b : Bool) → (b || false) ≡ b
 or-false true = refl
 or-false false = refl
@@ -82,14 +83,17 @@ module _ {T K P : Type 0} (s : Terminals T K P) where
           | inr h ↦ or-right (s.fits y t) (is_any s ys t) (is_any-among k ys t h f)
         ]
 
+    -- a disjunction is false if both sides are
     or-none : (a b : Bool) → a ≡ false → b ≡ false → (a || b) ≡ false
     or-none true b e f = e
     or-none false b e f = f
 
+    -- then its left is
     or-left-none : (a b : Bool) → (a || b) ≡ false → a ≡ false
     or-left-none true b e = e
     or-left-none false b e = refl
 
+    -- and its right is
     or-right-none : (a b : Bool) → (a || b) ≡ false → b ≡ false
     or-right-none true b e = cc
     or-right-none false b e = e

@@ -52,6 +52,7 @@ pub record Token : Type 0 where
   pub value : ℕ
   pub place : ℕ
 
+-- which kinds a token is of, and its place
 abbrev pub terminals : Terminals Token Kind ℕ
 terminals = by_kind same (λ t. t.kind) (λ t. t.place) 0
 
@@ -108,6 +109,7 @@ pub data Name : Type 0 where
   sum : Name
   atom : Name
 
+-- what a value of each name is
 abbrev pub Value : Name → Type 0
 Value program = List Tree
 Value sums = List Tree
@@ -115,9 +117,11 @@ Value more = List Tree
 Value sum = Tree
 Value atom = Tree
 
+-- pieces of this grammar
 abbrev pub Part : Type 0 → Type 1
 Part = Piece Token Kind ℕ Name Value
 
+-- each rule as above
 abbrev pub rule : (m : Name) → Part (Value m)
 rule program = LBrace ▸ deeper (nt sums ◂ RBrace)
 rule sums = alt (list (nt sum) (nt more)) (pure [])
@@ -127,6 +131,7 @@ rule atom = alt ((λ t. Leaf t.value) <$> tok Number) (LParen ▸ deeper (nt sum
 
 -- ---- the tables
 
+-- which may have no token
 abbrev pub nul : Name → Bool
 nul program = false
 nul sums = true
@@ -134,6 +139,7 @@ nul more = true
 nul sum = false
 nul atom = false
 
+-- with which kinds each may begin
 abbrev pub starts : Name → List Kind
 starts program = LBrace ∷ []
 starts sums = Number ∷ LParen ∷ []
@@ -141,6 +147,7 @@ starts more = Comma ∷ []
 starts sum = Number ∷ LParen ∷ []
 starts atom = Number ∷ LParen ∷ []
 
+-- with which kinds each could go on when it is over
 abbrev pub conts : Name → List Kind
 conts program = []
 conts sums = Number ∷ LParen ∷ Comma ∷ Plus ∷ []
@@ -148,6 +155,7 @@ conts more = Comma ∷ Plus ∷ []
 conts sum = Plus ∷ []
 conts atom = []
 
+-- above that of each name with which it may begin
 abbrev pub rank : Name → ℕ
 rank program = 0
 rank sums = 2
@@ -155,6 +163,7 @@ rank more = 0
 rank sum = 1
 rank atom = 0
 
+-- how high the least derivation of each is
 abbrev pub tall : Name → ℕ
 tall program = 1
 tall sums = 0
@@ -162,6 +171,7 @@ tall more = 0
 tall sum = 1
 tall atom = 0
 
+-- all of them
 abbrev pub tables : Tables Kind Name
 tables = record { nul = nul; starts = starts; conts = conts; rank = rank; ranks = 3; tall = tall; talls = 2 }
 

@@ -3,7 +3,9 @@ use Rattle.std.specs.Prelude.{◌≡◌, ◌⊎◌, ℕ, zero, suc, Bool, true, 
 
 -- Tokens as a grammar sees them: of which kinds a token is, and where it stands.
 pub record Terminals (T K P : Type 0) : Type 0 where
+  -- the token is of the kind
   pub fits : K → T → Bool
+  -- where the token stands
   pub place : T → P
   -- the place of no tokens
   pub nowhere : P
@@ -84,6 +86,7 @@ infixl 31 ◌◂◌
 abbrev pub ◌◂◌ : {T K P N : Type 0} {Sem : N → Type 0} {A : Type 0} → Piece T K P N Sem A → K → Piece T K P N Sem A
 a ◂ key = seq (λ x _. x) a (tok key)
 
+-- no token, and no value to speak of
 abbrev pub nothing : {T K P N : Type 0} {Sem : N → Type 0} → Piece T K P N Sem (Unit {0})
 nothing = pure tt
 

@@ -30,6 +30,10 @@ abbrev pub and_then : {T A B : Type 0} → Outcome T A → (A → List T → Out
 and_then (Ok x, r) f = f x r
 and_then (Err e, r) f = (Err e, r)
 
+-- values that were found before stand in front: what a loop over a list has read and has still to read
+abbrev pub adds : {T A : Type 0} → List A → Outcome T (List A) → Outcome T (List A)
+adds front o = and_then o (λ xs r. (Ok (front ++ xs), r))
+
 -- the token is of one of these kinds
 abbrev pub is_any : {T K P : Type 0} → Terminals T K P → List K → T → Bool
 is_any s [] t = false

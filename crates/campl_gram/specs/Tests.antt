@@ -5,8 +5,11 @@ use Rattle.campl_gram.specs.Reading.{Tables, nullable, first}
 
 -- Two kinds have the same tokens or none in common, `same` tells which, and each has a token.
 pub record Distinct {T K P : Type 0} (s : Terminals T K P) (same : K → K → Bool) : Type 0 where
+  -- the same kinds have the same tokens
   pub alike : (j k : K) (t : T) → same j k ≡ true → s.fits j t ≡ true → s.fits k t ≡ true
+  -- others have none in common
   pub apart : (j k : K) (t : T) → same j k ≡ false → s.fits j t ≡ true → s.fits k t ≡ false
+  -- a token of each kind
   pub sample : K → T
   pub sampled : (k : K) → s.fits k (sample k) ≡ true
 
@@ -94,10 +97,12 @@ pub data Wrong : Type 0 where
   -- its least derivation is higher than the table says, or its height is above all
   Tall : Wrong
 
+-- the problem is there unless the test holds
 abbrev pub unless : Bool → Wrong → List Wrong → List Wrong
 unless true problem rest = rest
 unless false problem rest = problem ∷ rest
 
+-- both are true or both false
 abbrev pub both : Bool → Bool → Bool
 both true b = b
 both false b = not b

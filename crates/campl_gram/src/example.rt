@@ -1,4 +1,4 @@
-//! A small grammar: programs of sums in braces. It shows that a grammar can be given.
+//! A small grammar as an example: programs of sums in braces.
 ghost use Rattle.std.specs.Prelude.{ℕ};
 ghost use Rattle.campl_gram.specs.Example as example;
 
@@ -29,4 +29,27 @@ impl Grammar for Sums {
     ghost tables = { example.tables };
 
     ghost passes = { example.passes };
+}
+
+#[cfg(test)]
+mod tests {
+    use super::Sums;
+    use crate::fault::Fault;
+    use crate::laws::{fault_is_at_a_token, name_is_read_as_its_rule, one_tree, proper_front_is_open, reading_is_exact};
+
+    // Each law is called at one grammar, so there is a grammar of which it speaks.
+    #[test]
+    fn the_laws_hold_of_the_sums() {
+        one_tree::<Sums>();
+        reading_is_exact::<Sums>();
+        name_is_read_as_its_rule::<Sums>();
+        proper_front_is_open::<Sums>();
+        fault_is_at_a_token::<Sums>();
+    }
+
+    #[test]
+    fn the_faults_differ() {
+        assert!(Fault::Unexpected == Fault::Unexpected);
+        assert!(Fault::Unexpected != Fault::TooDeep);
+    }
 }
