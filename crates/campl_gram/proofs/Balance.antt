@@ -1,12 +1,12 @@
 -- No proper front of a program is balanced, where its rules are and its own rule stands in brackets.
-use Rattle.std.proofs.Common.{◌≡◌, ◌⊎◌, inl, inr, ℕ, zero, suc, ◌+◌, Bool, true, false, ◌==◌, if◌then◌else◌, Option, Some, None, List, [], ◌∷◌, ◌++◌, Result, Ok, Err, refl, sym, ◌∙◌, ap, subst, arith, append-nil, rules}
+use Rattle.std.proofs.Common.{◌≡◌, inl, inr, ℕ, zero, suc, ◌+◌, Bool, true, false, ◌==◌, if◌then◌else◌, Option, Some, None, List, [], ◌∷◌, ◌++◌, Err, refl, sym, ◌∙◌, ap, subst, arith, append-nil, rules}
 use Rattle.campl_gram.specs.declared.fault.Fault.{Fault}
 use Rattle.campl_gram.specs.declared.fault.Fault.TheVariants.{Unexpected, TooDeep}
 use Rattle.campl_gram.specs.Grammar.{Terminals, Piece, tok, pure, seq, alt, deeper, at, nt, Nested, bare}
 use Rattle.campl_gram.specs.Grammar as grammar
 use Rattle.campl_gram.specs.Verdicts.{Answers}
 use Rattle.campl_gram.specs.Tests.{Distinct}
-use Rattle.campl_gram.specs.Brackets.{then_from, one_more, open_after, Balanced, Spot, Before, Inside, Behind, leaving, meet, pass, pass_name, through, RulesBalanced, Encloses}
+use Rattle.campl_gram.specs.Brackets.{then_from, open_after, Balanced, Spot, Before, Inside, Behind, leaving, meet, pass, through, RulesBalanced, Encloses}
 use Rattle.campl_gram.proofs.Found.{bare-append}
 
 -- numbers that pass the test are equal
@@ -82,6 +82,7 @@ module _ {T K P : Type 0} (s : Terminals T K P) (opening closing : K) where
       behind : (v : List T) → run Behind v ≡ Some (Inside k) → ⊥
       behind [] e = cc
       behind (x ∷ v) e = cc
+
       by : (n : ℕ) (a b : Bool) → then_from (pass a b (Inside n)) (λ i. run i u) ≡ Some (Inside k)
           → ((m : ℕ) → run (Inside m) u ≡ Some (Inside k) → run (Inside (m + c)) u ≡ Some (Inside (k + c)))
           → then_from (pass a b (Inside (n + c))) (λ i. run i u) ≡ Some (Inside (k + c))

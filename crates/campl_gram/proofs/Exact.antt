@@ -1,12 +1,11 @@
 -- A grammar that passes the test is read exactly.
-use Rattle.std.proofs.Common.{◌≡◌, ◌⊎◌, inl, inr, ℕ, zero, suc, ◌+◌, ◌*◌, ◌-◌, ◌≤◌, ◌<◌, Bool, true, false, if◌then◌else◌, List, [], ◌∷◌, ◌++◌, length, Result, Ok, Err, refl, sym, ◌∙◌, ap, subst, arith, nat_le, append_assoc, append-nil, mul-le-mul_left, length-append}
-use Rattle.campl_gram.specs.declared.fault.Fault.{Fault}
+use Rattle.std.proofs.Common.{◌≡◌, ℕ, zero, suc, ◌+◌, ◌*◌, ◌≤◌, ◌<◌, Bool, true, false, List, [], ◌∷◌, ◌++◌, length, Ok, Err, refl, sym, ◌∙◌, ap, subst, arith, append-nil, mul-le-mul_left, length-append}
 use Rattle.campl_gram.specs.declared.fault.Fault.TheVariants.{Unexpected, TooDeep}
 use Rattle.campl_gram.specs.Grammar.{Terminals, Piece, nt, Nested, bare, Shallow, place_at}
 use Rattle.campl_gram.specs.Grammar as grammar
 use Rattle.campl_gram.specs.Reading.{Tables, Outcome, is_any, next_in}
 use Rattle.campl_gram.specs.Reading as reading
-use Rattle.campl_gram.specs.Verdicts.{finish, Begins, Stops, Sinks, Answers}
+use Rattle.campl_gram.specs.Verdicts.{finish, Stops, Sinks, Answers}
 use Rattle.campl_gram.specs.Tests.{Distinct, Passes}
 use Rattle.campl_gram.specs.Tests as tests
 use Rattle.campl_gram.proofs.Sets.{inside, next-within}
@@ -100,7 +99,7 @@ module _ {T K P : Type 0} (s : Terminals T K P) (N : Type 0) (Sem : N → Type 0
         record { u = []; split = refl; local = λ z e. refl; means = ([], x.0, x.1, refl, tt, x.2, tt) }
     good (suc n) m d ts =
         let g = found.good s N Sem tables same laws limit (below n) (Says (level n)) (fuel.leaves-below s N Sem tables limit low rule leads nuls n) (good n)
-            (rule m) (lives.all-live s N Sem rule tables same laws passed n (rule m)) (passed m).placed d ts in
+        (rule m) (lives.all-live s N Sem rule tables same laws passed n (rule m)) (passed m).placed d ts in
         record {
           u = g.u;
           split = g.split;
@@ -130,10 +129,9 @@ module _ {T K P : Type 0} (s : Terminals T K P) (N : Type 0) (Sem : N → Type 0
     only-says (suc n) m d w x rest e k =
         reads m d (bare w ++ rest)
         ∙ only.only-by s N Sem tables same laws limit (Says n) (nuls-says n) (starts-says n) read (only-says n) (rule m) (passed m).decided d w x rest e
-          (next-within s same laws (tests.goes_on tables (rule m)) (tables.conts m) rest (passed m).conts k)
+        (next-within s same laws (tests.goes_on tables (rule m)) (tables.conts m) rest (passed m).conts k)
 
     -- ---- whole texts
-
 
     -- a name is read as it should be
     good-read : (n : ℕ) (m : N) (d : ℕ) (ts : List T) → tables.rank m + tables.ranks * length ts < n → Good (below n) (Says (level n)) (nt m) d ts (read m d ts)
@@ -152,6 +150,7 @@ module _ {T K P : Type 0} (s : Terminals T K P) (N : Type 0) (Sem : N → Type 0
       where
         short : (n : ℕ) (m : N) (ts z : List T) → tables.rank m + tables.ranks * length ts < suc (tables.rank m + tables.ranks * (length ts + length z))
         short n m ts z = let k : tables.ranks * length ts ≤ tables.ranks * (length ts + length z) = mul-le-mul_left tables.ranks (omega arith) in omega arith
+
         still : (m : N) (ts u z r : List T) → ts ≡ u ++ r → tables.rank m + tables.ranks * length (u ++ z) < suc (tables.rank m + tables.ranks * (length ts + length z))
         still m ts u z r e =
             let k : tables.ranks * length (u ++ z) ≤ tables.ranks * (length ts + length z) = mul-le-mul_left tables.ranks (omega (arith, length-append u z, length-append u r, ap length e)) in omega arith
@@ -178,12 +177,13 @@ module _ {T K P : Type 0} (s : Terminals T K P) (N : Type 0) (Sem : N → Type 0
     sinks m d ts u r n is e w [] x b p k = absurd k
     sinks m d ts u [] n is e w (q ∷ more) x b p k = let f = k.2 in cc
     sinks m d ts u (t ∷ r) n is e w (q ∷ more) x b p k =
-        let same_token : t ≡ q.0 = let f = k.2 in cc in
-        ((w, q.1, more, x, b, (level n, subst (λ y. Says (level n) m d (w ++ (y, q.1) ∷ more) x) (sym same_token) p)),
+        let same_token : t ≡ q.0 = let f = k.2 in cc in (
+          (w, q.1, more, x, b, (level n, subst (λ y. Says (level n) m d (w ++ (y, q.1) ∷ more) x) (sym same_token) p)),
           λ v i more y prog b'.
-          deep-at limit v (t, i) more y
-          (sym (only-whole m d (v ++ (t, i) ∷ more) y prog) ∙ ap (read m d) (bare-append v ((t, i) ∷ more) ∙ ap (λ l. l ++ t ∷ bare more) b')
-            ∙ local-read m d ts u (t ∷ bare more) (Err TooDeep, t ∷ r) is e refl))
+              deep-at limit v (t, i) more y
+              (sym (only-whole m d (v ++ (t, i) ∷ more) y prog) ∙ ap (read m d) (bare-append v ((t, i) ∷ more) ∙ ap (λ l. l ++ t ∷ bare more) b')
+              ∙ local-read m d ts u (t ∷ bare more) (Err TooDeep, t ∷ r) is e refl),
+        )
 
     -- what is read is the answer
     answers : (m : N) (d : ℕ) (ts : List T) (n : ℕ) (o : Outcome T (Sem m)) → read m d ts ≡ o → Good (below n) (Says (level n)) (nt m) d ts o → Answers limit (IsA m d) ts (finish o)

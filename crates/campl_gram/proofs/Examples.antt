@@ -1,7 +1,7 @@
 -- The small grammar read on a few texts, and its trees against the number of their tokens.
-use Rattle.std.proofs.Common.{◌≡◌, ◌⊎◌, ℕ, zero, suc, ◌+◌, ◌≤◌, List, [], ◌∷◌, length, Ok, Err, refl, arith, sym, ap}
+use Rattle.std.proofs.Common.{◌≡◌, ℕ, ◌+◌, ◌≤◌, List, [], ◌∷◌, length, Ok, Err, refl, arith}
 use Rattle.campl_gram.specs.declared.fault.Fault.TheVariants.{Unexpected, TooDeep}
-use Rattle.campl_gram.specs.Grammar.{Piece, Nested, IsProgram, tok, pure, seq, alt, deeper, at, nt, ◌▸◌, ◌◂◌, ◌<$>◌, into, list, nothing}
+use Rattle.campl_gram.specs.Grammar.{Piece, Nested, IsProgram, tok, seq, alt, nt, ◌▸◌, ◌<$>◌}
 use Rattle.campl_gram.specs.Reading.{Outcome, read}
 use Rattle.campl_gram.specs.Verdicts.{finish}
 use Rattle.campl_gram.specs.Tests.{wrongs, Undecided, Rank, Tall}
@@ -97,22 +97,22 @@ each sums = measured-alt (measured-seq (Small sum) (Small more) (has_name sum) (
 each more =
     measured-alt
     (measured-seq One (Small sums) (measured-tok (λ t. omega arith))
-      (measured-deeper (measured-seq (Small sum) (Small more) (has_name sum) (has_name more) (λ x y i j h k. omega arith))) (λ x y i j h k. omega arith))
+    (measured-deeper (measured-seq (Small sum) (Small more) (has_name sum) (has_name more) (λ x y i j h k. omega arith))) (λ x y i j h k. omega arith))
     (measured-pure (omega arith))
 each sum =
     measured-at
     (measured-seq (Small atom) (λ f n. (x : Tree) (p : ℕ) → size (f x p) ≤ size x + n) (has_name atom)
-      (measured-alt
-        (measured-seq (λ y n. size y + 1 ≤ n) (λ u n. Unit {0})
-          (measured-seq One (Small sum) (measured-tok (λ t. omega arith)) (measured-deeper (has_name sum)) (λ x y i j h k. omega arith))
-          (measured-pure tt) (λ y u i j h k x p. omega arith))
-        (measured-pure (λ x p. omega arith)))
-      (λ x f i j h k p. let e : size (f x p) ≤ size x + j = k x p in omega arith))
+    (measured-alt
+    (measured-seq (λ y n. size y + 1 ≤ n) (λ u n. Unit {0})
+    (measured-seq One (Small sum) (measured-tok (λ t. omega arith)) (measured-deeper (has_name sum)) (λ x y i j h k. omega arith))
+    (measured-pure tt) (λ y u i j h k x p. omega arith))
+    (measured-pure (λ x p. omega arith)))
+    (λ x f i j h k p. let e : size (f x p) ≤ size x + j = k x p in omega arith))
 each atom =
     measured-alt
     (measured-seq One (λ u n. Unit {0}) (measured-tok (λ t. omega arith)) (measured-pure tt) (λ x y i j h k. omega arith))
     (measured-seq One (Small sum) (measured-tok (λ t. omega arith))
-      (measured-deeper (measured-seq (Small sum) One (has_name sum) (measured-tok (λ t. omega arith)) (λ x y i j h k. omega arith))) (λ x y i j h k. omega arith))
+    (measured-deeper (measured-seq (Small sum) One (has_name sum) (measured-tok (λ t. omega arith)) (λ x y i j h k. omega arith))) (λ x y i j h k. omega arith))
 
 -- A program's trees have at least two nodes less than it has tokens.
 program_is_small : (w : List (Nested Token)) (xs : List Tree) → IsProgram terminals Name Value rule program w xs → sizes xs + 2 ≤ length w

@@ -1,5 +1,5 @@
 -- What is read is in the grammar. What is refused could have gone on up to the refused token.
-use Rattle.std.proofs.Common.{◌≡◌, ◌⊎◌, inl, inr, ℕ, zero, suc, ◌+◌, ◌*◌, ◌≤◌, ◌<◌, max, min, Bool, true, false, cond, not, ◌&&◌, ◌||◌, if◌then◌else◌, List, [], ◌∷◌, ◌++◌, length, Result, Ok, Err, refl, sym, ◌∙◌, ap, subst, arith, nat_le, append_assoc, append-nil}
+use Rattle.std.proofs.Common.{◌≡◌, inl, inr, ℕ, suc, ◌+◌, ◌≤◌, Bool, true, false, not, if◌then◌else◌, List, [], ◌∷◌, ◌++◌, length, Ok, Err, refl, sym, ◌∙◌, ap, subst, arith, nat_le, append_assoc}
 use Rattle.campl_gram.specs.declared.fault.Fault.{Fault}
 use Rattle.campl_gram.specs.declared.fault.Fault.TheVariants.{Unexpected, TooDeep}
 use Rattle.campl_gram.specs.Grammar.{Terminals, Piece, tok, pure, seq, alt, deeper, at, nt, place_at, Nested, bare, Shallow}
@@ -179,7 +179,7 @@ module _ {T K P : Type 0} (s : Terminals T K P) (N : Type 0) (Sem : N → Type 0
     two-local f a b d ts x us o ga gb z al =
         ap (by r (seq f a b) d) (append_assoc ga.u gb.u z)
         ∙ ap (λ o. and_then o (λ x us. and_then (by r b d us) (λ y vs. (Ok (f x y), vs))))
-          (ga.local (gb.u ++ z) (subst (λ l. Alike l (gb.u ++ z)) (sym gb.split) (alike-after gb.u o.1 z al)))
+        (ga.local (gb.u ++ z) (subst (λ l. Alike l (gb.u ++ z)) (sym gb.split) (alike-after gb.u o.1 z al)))
         ∙ ap (λ o. and_then o (λ y vs. (Ok (f x y), vs))) (gb.local z al)
 
     -- a piece read behind another
@@ -189,16 +189,26 @@ module _ {T K P : Type 0} (s : Terminals T K P) (N : Type 0) (Sem : N → Type 0
       u = ga.u ++ gb.u;
       split = ga.split ∙ ap (λ l. ga.u ++ l) gb.split ∙ sym (append_assoc ga.u gb.u vs);
       local = λ z al. two-local f a b d ts x us (Ok y, vs) ga gb z al;
-      means = (ga.means.0 ++ gb.means.0, bare-append ga.means.0 gb.means.0 ∙ ap (λ l. l ++ bare gb.means.0) ga.means.1 ∙ ap (λ l. ga.u ++ l) gb.means.1,
-        shallow-append limit ga.means.0 gb.means.0 ga.means.2 gb.means.2, (x, y, ga.means.0, gb.means.0, ga.means.3, gb.means.3, refl, refl));
+      means = (
+        ga.means.0 ++ gb.means.0,
+        bare-append ga.means.0 gb.means.0 ∙ ap (λ l. l ++ bare gb.means.0) ga.means.1 ∙ ap (λ l. ga.u ++ l) gb.means.1,
+        shallow-append limit ga.means.0 gb.means.0 ga.means.2 gb.means.2,
+        (x, y, ga.means.0, gb.means.0, ga.means.3, gb.means.3, refl, refl),
+      );
     }
     good-two f a b d ts x us (Err e, vs) ga gb = record {
       u = ga.u ++ gb.u;
       split = ga.split ∙ ap (λ l. ga.u ++ l) gb.split ∙ sym (append_assoc ga.u gb.u vs);
       local = λ z al. two-local f a b d ts x us (Err e, vs) ga gb z al;
-      means = (ga.means.0 ++ gb.means.0, gb.means.1, f x gb.means.2, bare-append ga.means.0 gb.means.0 ∙ ap (λ l. l ++ bare gb.means.0) ga.means.1 ∙ ap (λ l. ga.u ++ l) gb.means.3,
+      means = (
+        ga.means.0 ++ gb.means.0,
+        gb.means.1,
+        f x gb.means.2,
+        bare-append ga.means.0 gb.means.0 ∙ ap (λ l. l ++ bare gb.means.0) ga.means.1 ∙ ap (λ l. ga.u ++ l) gb.means.3,
         shallow-append limit ga.means.0 gb.means.0 ga.means.2 gb.means.4,
-        (x, gb.means.2, ga.means.0, gb.means.0 ++ gb.means.1, ga.means.3, gb.means.5, append_assoc ga.means.0 gb.means.0 gb.means.1, refl), gb.means.6);
+        (x, gb.means.2, ga.means.0, gb.means.0 ++ gb.means.1, ga.means.3, gb.means.5, append_assoc ga.means.0 gb.means.0 gb.means.1, refl),
+        gb.means.6,
+      );
     }
 
     -- the one and then the other

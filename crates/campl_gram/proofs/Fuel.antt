@@ -1,5 +1,5 @@
 -- Reading by a grammar comes to an end, so a name is read as its rule is.
-use Rattle.std.proofs.Common.{◌≡◌, ◌⊎◌, ℕ, zero, suc, ◌+◌, ◌*◌, ◌≤◌, ◌<◌, max, Bool, true, false, cond, not, ◌&&◌, ◌||◌, if◌then◌else◌, List, [], ◌∷◌, length, Result, Ok, Err, refl, sym, ◌∙◌, ap, subst, arith, mul-le-mul_left, nat_le, ◌-◌, ◌++◌}
+use Rattle.std.proofs.Common.{◌≡◌, ℕ, zero, suc, ◌+◌, ◌*◌, ◌≤◌, ◌<◌, max, Bool, true, false, ◌&&◌, ◌||◌, if◌then◌else◌, List, [], ◌∷◌, length, Ok, Err, refl, sym, ◌∙◌, ap, subst, arith, mul-le-mul_left, nat_le, ◌-◌}
 use Rattle.campl_gram.specs.declared.fault.Fault.{Fault}
 use Rattle.campl_gram.specs.Grammar.{Terminals, Piece, tok, pure, seq, alt, deeper, at, nt, place_at}
 use Rattle.campl_gram.specs.Reading.{Tables, Outcome, and_then, next_in, expect}
@@ -129,6 +129,7 @@ module _ {T K P : Type 0} (s : Terminals T K P) (N : Type 0) (Sem : N → Type 0
         second : (p : Bool) (x y n m w : ℕ) → y ≤ tables.ranks → (if p then max x y else x) + tables.ranks * m ≤ w → n + need p ≤ m → y + tables.ranks * n ≤ w
         second true x y n m w low h k = omega (arith, mul-le-mul_left tables.ranks k)
         second false x y n m w low h k = omega (arith, mul-le-mul_left tables.ranks k)
+
         first : (p : Bool) (x y m w : ℕ) → (if p then max x y else x) + m ≤ w → x + m ≤ w
         first true x y m w h = omega arith
         first false x y m w h = h

@@ -1,5 +1,5 @@
 -- What holds by each rule holds of all that a grammar says.
-use Rattle.std.proofs.Common.{◌≡◌, ◌⊎◌, inl, inr, ℕ, zero, suc, ◌+◌, ◌*◌, ◌≤◌, Bool, true, List, [], ◌∷◌, ◌++◌, length, refl, sym, ◌∙◌, ap, subst, arith, length-append}
+use Rattle.std.proofs.Common.{◌≡◌, inl, inr, ℕ, zero, suc, ◌+◌, List, length, sym, ap, subst, arith, length-append}
 use Rattle.campl_gram.specs.Grammar.{Terminals, Piece, tok, pure, seq, alt, deeper, at, nt, Nested, bare, place_at}
 use Rattle.campl_gram.specs.Grammar as grammar
 
@@ -60,8 +60,8 @@ module _ {T K P N : Type 0} {Sem : N → Type 0} {s : Terminals T K P} {Q : (m :
       → ((x : A) (y : B) (i j : ℕ) → Ra x i → Rb y j → R (f x y) (i + j)) → Measured s Q (seq f a b) R
   measured-seq {R = R} Ra Rb ma mb both = record {
     by = λ d w v has.
-      let e : length has.2 + length has.3 ≡ length w = omega (arith, ap length has.6, length-append has.2 has.3) in
-      subst (R v) e (subst (λ z. R z (length has.2 + length has.3)) (sym has.7)
+        let e : length has.2 + length has.3 ≡ length w = omega (arith, ap length has.6, length-append has.2 has.3) in
+        subst (R v) e (subst (λ z. R z (length has.2 + length has.3)) (sym has.7)
         (both has.0 has.1 (length has.2) (length has.3) (ma.by d has.2 has.0 has.4) (mb.by d has.3 has.1 has.5)));
   }
 

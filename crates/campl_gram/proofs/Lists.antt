@@ -1,5 +1,5 @@
 -- Lists that a parser reads by a loop or a tail call.
-use Rattle.std.proofs.Common.{◌≡◌, ◌≤◌, ◌+◌, ℕ, Bool, false, List, [], ◌∷◌, ◌++◌, length, Result, Ok, Err, refl, ap, subst, append_assoc, append-nil}
+use Rattle.std.proofs.Common.{◌≡◌, ◌≤◌, ◌+◌, ℕ, Bool, false, List, [], ◌∷◌, ◌++◌, length, Ok, Err, refl, ap, subst, append_assoc, append-nil}
 use Rattle.campl_gram.specs.Grammar.{Terminals}
 use Rattle.campl_gram.specs.Reading.{Outcome, and_then, adds, expect}
 use Rattle.campl_gram.proofs.Fuel.{need, Leaves, leaves-expect}

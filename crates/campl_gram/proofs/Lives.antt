@@ -1,5 +1,5 @@
 -- Every piece of a grammar that passes the test can be finished.
-use Rattle.std.proofs.Common.{◌≡◌, ◌⊎◌, inl, inr, ℕ, zero, suc, ◌+◌, ◌≤◌, ◌<◌, min, Bool, true, List, [], ◌∷◌, ◌++◌, refl, arith}
+use Rattle.std.proofs.Common.{◌⊎◌, inl, inr, ℕ, zero, suc, ◌≤◌, ◌<◌, min, Bool, List, [], ◌∷◌, ◌++◌, refl, arith}
 use Rattle.campl_gram.specs.Grammar.{Terminals, Piece, tok, pure, seq, alt, deeper, at, nt, place_at, Nested, bare}
 use Rattle.campl_gram.specs.Grammar as grammar
 use Rattle.campl_gram.specs.Reading.{Tables}

@@ -1,5 +1,5 @@
 -- What is in the grammar is read, and nothing else is read there.
-use Rattle.std.proofs.Common.{◌≡◌, ◌⊎◌, inl, inr, ℕ, zero, suc, ◌+◌, ◌≤◌, ◌<◌, Bool, true, false, not, ◌&&◌, ◌||◌, if◌then◌else◌, List, [], ◌∷◌, ◌++◌, Result, Ok, Err, refl, sym, ◌∙◌, ap, subst, arith, nat_le, append_assoc, true≢false}
+use Rattle.std.proofs.Common.{◌≡◌, inl, inr, ℕ, suc, Bool, true, false, not, ◌&&◌, if◌then◌else◌, List, [], ◌∷◌, ◌++◌, Ok, Err, refl, sym, ◌∙◌, ap, subst, nat_le, append_assoc, true≢false}
 use Rattle.campl_gram.specs.declared.fault.Fault.TheVariants.{Unexpected, TooDeep}
 use Rattle.campl_gram.specs.Grammar.{Terminals, Piece, tok, pure, seq, alt, deeper, at, nt, place_at, Nested, bare}
 use Rattle.campl_gram.specs.Grammar as grammar
@@ -37,6 +37,7 @@ module _ {T : Type 0} (limit : ℕ) where
     where
       same-rest : bare p ++ (bare q ++ rest) ≡ bare (p ++ q) ++ rest
       same-rest = sym (append_assoc (bare p) (bare q) rest) ∙ ap (λ l. l ++ rest) (sym (bare-append p q))
+
       by : (c : Bool) → and_then (verdict p x (bare q ++ rest)) k ≡ verdict (p ++ q) y rest
           → and_then (if c then verdict p x (bare q ++ rest) else (Err TooDeep, t.0 ∷ (bare p ++ (bare q ++ rest)))) k
           ≡ (if c then verdict (p ++ q) y rest else (Err TooDeep, t.0 ∷ (bare (p ++ q) ++ rest)))
@@ -175,12 +176,12 @@ module _ {T K P : Type 0} (s : Terminals T K P) (N : Type 0) (Sem : N → Type 0
             let oks = and-right (disjoint same (firsts b) (conts a)) (tells a && tells b) ok in
             let k : A → List T → Outcome T C = λ z us. and_then (by r b d us) (λ y vs. (Ok (f z y), vs)) in
             let after : k x' (bare q ++ rest) ≡ verdict limit q (f x' y') rest =
-                ap (λ o. and_then o (λ y vs. (Ok (f x' y), vs))) (only-by b (and-right (tells a) (tells b) oks) d q y' rest has.5 (next-front s (conts b) (if may b then conts a else []) rest n))
-                ∙ verdict-map limit (f x') q y' rest in
+            ap (λ o. and_then o (λ y vs. (Ok (f x' y), vs))) (only-by b (and-right (tells a) (tells b) oks) d q y' rest has.5 (next-front s (conts b) (if may b then conts a else []) rest n))
+            ∙ verdict-map limit (f x') q y' rest in
             ap (λ u. and_then (by r a d (bare u ++ rest)) k) has.6
             ∙ ap (λ l. and_then (by r a d l) k) (ap (λ l. l ++ rest) (bare-append p q) ∙ append_assoc (bare p) (bare q) rest)
             ∙ ap (λ o. and_then o k) (only-by a (and-left (tells a) (tells b) oks) d p x' (bare q ++ rest) has.4
-              (over a b d q y' rest (and-left (disjoint same (firsts b) (conts a)) (tells a && tells b) ok) has.5 n))
+            (over a b d q y' rest (and-left (disjoint same (firsts b) (conts a)) (tells a && tells b) ok) has.5 n))
             ∙ verdict-then limit (f x' y') k p q x' rest after
             ∙ ap (λ u. verdict limit u (f x' y') rest) (sym has.6)
             ∙ ap (λ z. verdict limit w z rest) (sym has.7)

@@ -1,5 +1,5 @@
 -- What a name's passing the test says.
-use Rattle.std.proofs.Common.{◌≡◌, ℕ, suc, ◌≤◌, ◌<◌, Bool, true, false, not, ◌&&◌, List, [], ◌∷◌, refl, sym, ◌∙◌, ap, nat_le, nat_lt, ltb-true, leb-true}
+use Rattle.std.proofs.Common.{◌≡◌, ◌≤◌, ◌<◌, Bool, true, false, List, [], refl, sym, ltb-true, leb-true}
 use Rattle.campl_gram.specs.Grammar.{Piece}
 use Rattle.campl_gram.specs.Reading.{Tables, nullable, first}
 use Rattle.campl_gram.specs.Tests.{Wrong, Rank, Nul, Starts, Conts, Undecided, Unplaced, Tall, unless, both, wrongs, within, goes_on, decides, lead, placed, cost}

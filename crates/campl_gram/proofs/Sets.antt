@@ -1,5 +1,5 @@
 -- Lists of kinds of token, and what they say of tokens.
-use Rattle.std.proofs.Common.{◌≡◌, Bool, true, false, not, ◌&&◌, ◌||◌, List, [], ◌∷◌, ◌++◌, refl, sym, ◌∙◌, ap, inl, inr, ◌⊎◌, true≢false}
+use Rattle.std.proofs.Common.{◌≡◌, Bool, true, false, not, ◌&&◌, ◌||◌, List, [], ◌∷◌, ◌++◌, refl, sym, ◌∙◌, inl, inr, ◌⊎◌, true≢false}
 use Rattle.campl_gram.specs.Grammar.{Terminals}
 use Rattle.campl_gram.specs.Reading.{is_any, next_in}
 use Rattle.campl_gram.specs.Tests.{Distinct, among, disjoint, within}
@@ -64,7 +64,7 @@ module _ {T K P : Type 0} (s : Terminals T K P) where
   is_any-front [] ys t e = cc
   is_any-front (x ∷ xs) ys t e =
       is_any-cons x (xs ++ ys) t ∙ elim (or-split (s.fits x t) (is_any s xs t) (sym (is_any-cons x xs t) ∙ e)) [
-        inl h ↦ or-left (s.fits x t) (is_any s (xs ++ ys) t) h
+        | inl h ↦ or-left (s.fits x t) (is_any s (xs ++ ys) t) h
         | inr h ↦ or-right (s.fits x t) (is_any s (xs ++ ys) t) (is_any-front xs ys t h)
       ]
 
@@ -79,7 +79,7 @@ module _ {T K P : Type 0} (s : Terminals T K P) where
     is_any-among k [] t e f = e
     is_any-among k (y ∷ ys) t e f =
         is_any-cons y ys t ∙ elim (or-split (same k y) (among same k ys) e) [
-          inl h ↦ or-left (s.fits y t) (is_any s ys t) (laws.alike k y t h f)
+          | inl h ↦ or-left (s.fits y t) (is_any s ys t) (laws.alike k y t h f)
           | inr h ↦ or-right (s.fits y t) (is_any s ys t) (is_any-among k ys t h f)
         ]
 
@@ -109,7 +109,7 @@ module _ {T K P : Type 0} (s : Terminals T K P) where
     pub apart : (xs ys : List K) (t : T) → disjoint same xs ys ≡ true → is_any s xs t ≡ true → is_any s ys t ≡ false
     apart [] ys t d e = cc
     apart (x ∷ xs) ys t d e = elim (or-split (s.fits x t) (is_any s xs t) (sym (is_any-cons x xs t) ∙ e)) [
-      inl h ↦ is_any-not x ys t (not-true (among same x ys) (and-left (not (among same x ys)) (disjoint same xs ys) d)) h
+      | inl h ↦ is_any-not x ys t (not-true (among same x ys) (and-left (not (among same x ys)) (disjoint same xs ys) d)) h
       | inr h ↦ apart xs ys t (and-right (not (among same x ys)) (disjoint same xs ys) d) h
     ]
 
@@ -117,7 +117,7 @@ module _ {T K P : Type 0} (s : Terminals T K P) where
     pub inside : (xs ys : List K) (t : T) → within same xs ys ≡ true → is_any s xs t ≡ true → is_any s ys t ≡ true
     inside [] ys t d e = cc
     inside (x ∷ xs) ys t d e = elim (or-split (s.fits x t) (is_any s xs t) (sym (is_any-cons x xs t) ∙ e)) [
-      inl h ↦ is_any-among x ys t (and-left (among same x ys) (within same xs ys) d) h
+      | inl h ↦ is_any-among x ys t (and-left (among same x ys) (within same xs ys) d) h
       | inr h ↦ inside xs ys t (and-right (among same x ys) (within same xs ys) d) h
     ]
 

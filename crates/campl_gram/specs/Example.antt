@@ -5,7 +5,7 @@
 --   atom    = number | "(" sum ")"
 use Rattle.std.specs.Prelude.{◌≡◌, ℕ, zero, suc, ◌+◌, Bool, true, false, ◌==◌, List, [], ◌∷◌}
 use Rattle.std.proofs.Common.{refl, sym, ◌∙◌, ap, rules}
-use Rattle.campl_gram.specs.Grammar.{Terminals, Piece, tok, pure, seq, alt, deeper, at, nt, ◌▸◌, ◌◂◌, ◌<$>◌, into, list}
+use Rattle.campl_gram.specs.Grammar.{Terminals, Piece, tok, pure, alt, deeper, at, nt, ◌▸◌, ◌◂◌, ◌<$>◌, into, list}
 use Rattle.campl_gram.specs.Reading.{Tables}
 use Rattle.campl_gram.specs.Tests.{Distinct, Passes}
 use Rattle.campl_gram.specs.OneKind.{by_kind, distinct}

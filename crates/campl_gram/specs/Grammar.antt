@@ -1,5 +1,5 @@
 -- Grammars as data, and what they say of lists of tokens.
-use Rattle.std.specs.Prelude.{◌≡◌, ◌⊎◌, ℕ, zero, suc, Bool, true, false, List, [], ◌∷◌, ◌++◌, nat_le}
+use Rattle.std.specs.Prelude.{◌≡◌, ◌⊎◌, ℕ, zero, suc, Bool, true, List, [], ◌∷◌, ◌++◌, nat_le}
 
 -- Tokens as a grammar sees them: of which kinds a token is, and where it stands.
 pub record Terminals (T K P : Type 0) : Type 0 where

@@ -1,6 +1,5 @@
 -- What is to be answered of the tokens of a whole text.
-use Rattle.std.specs.Prelude.{◌≡◌, ℕ, Bool, true, false, nat_le, List, [], ◌∷◌, ◌++◌, Result, Ok, Err}
-use Rattle.campl_gram.specs.declared.fault.Fault.{Fault}
+use Rattle.std.specs.Prelude.{◌≡◌, ℕ, false, nat_le, List, [], ◌∷◌, ◌++◌, Ok, Err}
 use Rattle.campl_gram.specs.declared.fault.Fault.TheVariants.{Unexpected, TooDeep}
 use Rattle.campl_gram.specs.Grammar.{Nested, bare, Shallow}
 use Rattle.campl_gram.specs.Reading.{Outcome}

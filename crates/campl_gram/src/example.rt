@@ -35,7 +35,10 @@ impl Grammar for Sums {
 mod tests {
     use super::Sums;
     use crate::fault::Fault;
-    use crate::laws::{fault_is_at_a_token, name_is_read_as_its_rule, one_tree, proper_front_is_open, reading_is_exact};
+    use crate::laws::{
+        fault_is_at_a_token, name_is_read_as_its_rule, one_tree, proper_front_is_open,
+        reading_is_exact,
+    };
 
     // Each law is called at one grammar, so there is a grammar of which it speaks.
     #[test]
@@ -48,8 +51,8 @@ mod tests {
     }
 
     #[test]
-    fn the_faults_differ() {
-        assert!(Fault::Unexpected == Fault::Unexpected);
-        assert!(Fault::Unexpected != Fault::TooDeep);
+    fn the_faults_differ(rt: HostRuntime) {
+        assert!(rt; Fault::Unexpected == Fault::Unexpected);
+        assert!(rt; Fault::Unexpected != Fault::TooDeep);
     }
 }

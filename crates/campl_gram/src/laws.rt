@@ -36,8 +36,7 @@ pub trait Grammar {
 pub fn one_tree<G: Grammar>()
     ensures { (m : G.Name) (w v : List (Nested G.Token)) (x y : G.Value m)
         → IsProgram G.terminals G.Name G.Value G.rule m w x → IsProgram G.terminals G.Name G.Value G.rule m v y → bare w ≡ bare v → x ≡ y }
-{
-}
+{}
 
 /// What is read of the tokens of a whole text is the answer for them, and a program within the limit is read as its tree.
 pub fn reading_is_exact<G: Grammar>()
@@ -46,16 +45,14 @@ pub fn reading_is_exact<G: Grammar>()
     ensures finds { (limit : ℕ) (m : G.Name) (w : List (Nested G.Token)) (x : G.Value m)
         → IsProgram G.terminals G.Name G.Value G.rule m w x → Shallow limit w
         → finish (read G.terminals G.Name G.Value G.tables limit G.rule m 0 (bare w)) ≡ (Ok x, []) }
-{
-}
+{}
 
 /// A name is read as its rule is. So a parser has one function for each name.
 pub fn name_is_read_as_its_rule<G: Grammar>()
     ensures { (limit : ℕ) (m : G.Name) (depth : ℕ) (tokens : List G.Token)
         → read G.terminals G.Name G.Value G.tables limit G.rule m depth tokens
         ≡ read_by G.terminals G.Name G.Value G.tables limit (read G.terminals G.Name G.Value G.tables limit G.rule) (G.rule m) depth tokens }
-{
-}
+{}
 
 /// Where each rule closes the brackets of one sort that it opens, and programs stand in such brackets, a program is
 /// balanced, and no proper front of it is but the empty one.
@@ -66,8 +63,7 @@ pub fn proper_front_is_open<G: Grammar>()
     ensures front { (opening closing : G.Kind) (m : G.Name) → RulesBalanced G.same opening closing G.rule → Encloses G.same opening closing (G.rule m)
         → (p : Nested G.Token) (w : List (Nested G.Token)) (q : Nested G.Token) (more : List (Nested G.Token)) (x : G.Value m)
         → IsProgram G.terminals G.Name G.Value G.rule m ((p ∷ w) ++ q ∷ more) x → Balanced G.terminals opening closing (bare (p ∷ w)) → ⊥ }
-{
-}
+{}
 
 /// There the fault of a balanced list of one token or more stands at a token, and never at the end.
 pub fn fault_is_at_a_token<G: Grammar>()
@@ -76,5 +72,4 @@ pub fn fault_is_at_a_token<G: Grammar>()
         → Balanced G.terminals opening closing (t ∷ ts)
         → Answers limit (IsProgram G.terminals G.Name G.Value G.rule m) (t ∷ ts) (Err fault, rest)
         → (x : G.Token) × (more : List G.Token) × (rest ≡ x ∷ more) }
-{
-}
+{}
