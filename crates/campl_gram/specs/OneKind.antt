@@ -6,7 +6,7 @@ use Rattle.campl_gram.specs.Tests.{Distinct}
 
 -- a token fits the kind that is its own
 abbrev pub by_kind : {T K P : Type 0} → (K → K → Bool) → (T → K) → (T → P) → P → Terminals T K P
-by_kind same kind_of place nowhere = record { fits = λ k t. same k (kind_of t); place = place; nowhere = nowhere }
+by_kind same kind_of place nowhere = record { fits = λ k t. same (kind_of t) k; place = place; nowhere = nowhere }
 
 -- what can't be true is false
 never : (b : Bool) → (b ≡ true → ⊥) → b ≡ false
@@ -18,9 +18,9 @@ pub distinct : {T K P : Type 0} (same : K → K → Bool) (kind_of : T → K) (p
     → ((k : K) → same k k ≡ true) → ((j k : K) → same j k ≡ true → j ≡ k) → (sample : K → T) → ((k : K) → kind_of (sample k) ≡ k)
     → Distinct (by_kind same kind_of place nowhere) same
 distinct same kind_of place nowhere same_refl same_is sample sampled = record {
-  alike = λ j k t e f. ap (λ i. same i (kind_of t)) (sym (same_is j k e)) ∙ f;
-  apart = λ j k t e f. never (same k (kind_of t))
-      (λ g. true≢false (sym (same_refl j) ∙ ap (same j) (same_is j (kind_of t) f ∙ sym (same_is k (kind_of t) g)) ∙ e));
+  alike = λ j k t e f. ap (same (kind_of t)) (sym (same_is j k e)) ∙ f;
+  apart = λ j k t e f. never (same (kind_of t) k)
+      (λ g. true≢false (sym (same_refl j) ∙ ap (same j) (sym (same_is (kind_of t) j f) ∙ same_is (kind_of t) k g) ∙ e));
   sample = sample;
-  sampled = λ k. ap (same k) (sampled k) ∙ same_refl k;
+  sampled = λ k. ap (λ i. same i k) (sampled k) ∙ same_refl k;
 }
