@@ -9,24 +9,29 @@ ghost use Rattle.campl_gram.specs.Brackets.{Balanced, RulesBalanced, Encloses};
 
 /// A grammar that passes the test, for proofs alone.
 pub trait Grammar {
+    // What the tokens, their kinds and their places are.
     ghost Token: { Type 0 };
 
     ghost Kind: { Type 0 };
 
     ghost Place: { Type 0 };
 
+    // Of which kinds a token is, and where it stands.
     ghost terminals: { Terminals Token Kind Place };
 
+    // Whether two kinds are the same; others have no token in common.
     ghost same: { Kind → Kind → Bool };
 
     ghost distinct: { Distinct terminals same };
 
+    // The grammar's names, what a value of each is, and its rule.
     ghost Name: { Type 0 };
 
     ghost Value: { Name → Type 0 };
 
     ghost rule: { (m : Name) → Piece Token Kind Place Name Value (Value m) };
 
+    // What is known of each name beside its rule, and that it is right.
     ghost tables: { Tables Kind Name };
 
     ghost passes: { Passes same tables rule };
