@@ -20,7 +20,9 @@
 //!
 //! A parser has one function for each name. It is plain recursive descent, and ensures that it reads as `read` does.
 //! `reads_sum` says that `read sum` is what its rule reads (`reads` of `proofs/Exact.antt` at the name), and that one
-//! lemma proves the function. A list is read by a tail call or a loop: `adds` and `proofs/Lists.antt`.
+//! lemma proves the function. A list is read by a tail call or a loop: `adds` and `proofs/Lists.antt`. Tokens are plain
+//! values with their text, since each kind must have one (`Distinct`). Let `terminals` be `unfoldable`, and only the
+//! cursor's own functions unfold it: the goals of all others stay small.
 //!
 //! ```text
 //! unfoldable pub read : (m : Name) → ℕ → List Token → Outcome Token (Value m)
