@@ -1,7 +1,7 @@
 -- Worked values of the definitions.
-use Rattle.std.proofs.Common.{◌≡◌, ℕ, List, [], ◌∷◌, ◌++◌, refl}
+use Rattle.std.proofs.Common.{◌≡◌, [], ◌∷◌, refl}
 use Rattle.std.specs.Prelude.{codes}
-use Rattle.campl_cli.specs.Pieces.{Piece, Word, Quoted, Unclosed, Line, pieces_in, lines_of}
+use Rattle.campl_cli.specs.Pieces.{Word, Quoted, Unclosed, pieces_in, lines_of}
 use Rattle.campl_cli.specs.Form.{spelled}
 
 glued : pieces_in (codes "put \"x\"on n") ≡ Word (codes "put") ∷ Quoted (codes "x") ∷ Word (codes "on") ∷ Word (codes "n") ∷ []

@@ -1,5 +1,5 @@
 -- A process that prints "Hello" on its Console, computed from its start.
-use Rattle.std.proofs.Common.{◌≡◌, ℕ, List, [], ◌∷◌, refl, Option, Some, None}
+use Rattle.std.proofs.Common.{◌≡◌, ℕ, List, [], ◌∷◌, ◌++◌, refl, Option, Some, None}
 use Rattle.std.specs.Prelude.{codes}
 use Rattle.campl_machine.specs.Names.{Who, Process, Service}
 use Rattle.campl_meaning.specs.Commands.{Source, Body, Then, Ends, Put, HPut, Halt, Text, Console, Name}
@@ -7,7 +7,8 @@ use Rattle.campl_meaning.specs.States.{Took, WasClosed, Transcript}
 use Rattle.campl_meaning.specs.Reductions.{Configuration, Event, reduce}
 use Rattle.campl_meaning.specs.Start.{start}
 use Rattle.campl_meaning.specs.Ends.{transcript_of, Finished}
-use Rattle.campl_meaning.specs.Output.{output_of}
+use Rattle.std.specs.Fmt.{digits}
+use Rattle.campl_meaning.specs.Output.{output_of, shown_text, shown_character}
 
 abbrev console : Name
 console = codes "console"
@@ -49,3 +50,14 @@ prints_hello_in_turns = refl
 -- the service has nothing to take before the process has sent
 waits_at_start : reduce (start hello []) (Service 0) 0 ≡ None
 waits_at_start = refl
+
+-- what it prints: 54 bytes
+hello_printed : output_of ((console, Took (codes "Hello") ∷ (WasClosed ∷ [])) ∷ []) Finished [] 7
+    ≡ codes "channel console" ++ (10 ∷ []) ++ codes "> Hello" ++ (10 ∷ []) ++ codes "closed" ++ (10 ∷ []) ++ codes "finished after 7 steps" ++ (10 ∷ [])
+unfolding digits lib.Utf8.encode
+hello_printed = refl
+
+-- a backslash, a line feed, a bell and delete are escaped, and an accent isn't
+escapes_shown : shown_text (97 ∷ (92 ∷ (10 ∷ (7 ∷ (127 ∷ (233 ∷ [])))))) ≡ 97 ∷ (92 ∷ (92 ∷ (92 ∷ (110 ∷ (92 ∷ (117 ∷ (123 ∷ (55 ∷ (125 ∷ (92 ∷ (117 ∷ (123 ∷ (55 ∷ (102 ∷ (125 ∷ (195 ∷ (169 ∷ [])))))))))))))))))
+unfolding digits lib.Utf8.encode
+escapes_shown = refl

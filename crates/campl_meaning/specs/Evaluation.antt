@@ -2,6 +2,7 @@
 use Rattle.std.specs.Prelude.{ℕ, List, Bool, true, false, if◌then◌else◌, nat_le}
 use Rattle.campl_value.specs.Tree.{Tree, depth_of}
 use Rattle.campl_value.specs.Text.{text_of}
+use Rattle.campl_value.specs.declared.value.TheConstants.{MAX_DEPTH}
 use Rattle.campl_meaning.specs.Commands.{Name, Expr, Text}
 
 -- what variables stand for, the newest first
@@ -18,13 +19,9 @@ pub data Result : Type 0 where
   -- more calls are needed
   More : Result
 
--- the greatest depth of a value
-abbrev pub most_deep : ℕ
-most_deep = 4096
-
 -- a value, unless it is too deep
 abbrev pub made : Tree → ℕ → Result
-made t n = if nat_le (depth_of t) most_deep then Done t n else Deep n
+made t n = if nat_le (depth_of t) MAX_DEPTH then Done t n else Deep n
 
 -- the value of an expression under these variables, with at most n calls of declared functions
 abbrev pub eval : Expr → Variables → ℕ → Result

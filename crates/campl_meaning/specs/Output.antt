@@ -1,5 +1,5 @@
 -- What a run prints.
-use Rattle.std.specs.Prelude.{ℕ, false, List, [], ◌∷◌, ◌++◌, codes, if◌then◌else◌, ◌==◌, ◌||◌, nat_lt, encode_utf8, flat_map}
+use Rattle.std.specs.Prelude.{ℕ, false, List, [], ◌∷◌, ◌++◌, codes, if◌then◌else◌, ◌==◌, ◌||◌, nat_lt, encode_utf8, encode_utf8_all, flat_map}
 use Rattle.std.specs.Fmt.{decimal, digits}
 use Rattle.campl_meaning.specs.Commands.{Name, ServiceChannel}
 use Rattle.campl_meaning.specs.States.{Record, Took, Sent, WasClosed, Transcript}
@@ -29,7 +29,7 @@ record_line WasClosed = codes "closed" ++ end_of_line
 
 -- a name in UTF-8
 abbrev pub spelled : Name → List ℕ
-spelled name = flat_map encode_utf8 name
+spelled name = encode_utf8_all name
 
 -- the lines of a channel: its name, and one for each record
 abbrev pub channel_lines : Name → Transcript → List ℕ

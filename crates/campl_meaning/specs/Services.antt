@@ -8,15 +8,19 @@ use Rattle.campl_meaning.specs.States.{Message, State, Serves, Serving, Script, 
 use Rattle.campl_meaning.specs.Kinds as k
 use Rattle.campl_meaning.specs.Kinds.{Command}
 
--- a service that goes on in this phase, with this script and these records more
+-- a service that goes on in this phase, with this script and this transcript
 abbrev pub goes_on : Serving → s.Phase → Script → Transcript → State
-goes_on service phase script records = Serves (record { kind = service.kind; end = service.end; script = script; phase = phase; transcript = service.transcript ++ records })
+goes_on service phase script transcript = Serves (record { kind = service.kind; end = service.end; script = script; phase = phase; transcript = transcript })
+
+-- a record is written down behind the others
+abbrev pub noting : Serving → s.Record → Transcript
+noting service noted = service.transcript ++ (noted ∷ [])
 
 -- behind a constructor of Console: it puts a text, gets a line, or closes
 abbrev pub console_picked : Serving → ℕ → Option State
-console_picked service zero = Some (goes_on service s.AwaitsText service.script [])
-console_picked service (suc zero) = Some (goes_on service s.SendsLine service.script [])
-console_picked service (suc (suc zero)) = Some (goes_on service s.Closed service.script (s.WasClosed ∷ []))
+console_picked service zero = Some (goes_on service s.AwaitsText service.script service.transcript)
+console_picked service (suc zero) = Some (goes_on service s.SendsLine service.script service.transcript)
+console_picked service (suc (suc zero)) = Some (goes_on service s.Closed service.script (noting service s.WasClosed))
 console_picked service (suc (suc (suc n))) = None
 
 abbrev pub picked : Serving → ServiceKind → ℕ → Option State
@@ -30,7 +34,7 @@ on_pick service (s.EndPair a b) = None
 
 -- the characters of a text are written down
 abbrev pub took : Serving → Option (List ℕ) → Option State
-took service (Some characters) = Some (goes_on service s.AwaitsPick service.script (s.Took characters ∷ []))
+took service (Some characters) = Some (goes_on service s.AwaitsPick service.script (noting service (s.Took characters)))
 took service None = None
 
 -- a message that is a text
@@ -46,7 +50,7 @@ sends_line service (line ∷ script) = Moves (record {
   send = Some (service.end, s.Word (text_of line));
   channels = [];
   children = [];
-  next = Some (goes_on service s.AwaitsPick script (s.Sent line ∷ []));
+  next = Some (goes_on service s.AwaitsPick script (noting service (s.Sent line)));
 })
 
 -- what a service does next

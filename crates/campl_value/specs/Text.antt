@@ -1,6 +1,8 @@
 -- Texts as lists of characters.
 use Rattle.std.specs.Prelude.{◌≡◌, refl, ℕ, List, [], ◌∷◌, Option, Some, None, option_map}
 use Rattle.std.proofs.Common.{ap}
+use Rattle.campl_value.specs.declared.text.Front.{Front}
+use Rattle.campl_value.specs.declared.text.Front.TheVariants as F
 use Rattle.campl_value.specs.Tree.{Tree, Char, Nil, Cell}
 
 -- the list of these characters
@@ -18,3 +20,15 @@ chars_of _ = None
 pub chars_of_text : (cs : List ℕ) → chars_of (text_of cs) ≡ Some cs
 chars_of_text [] = refl
 chars_of_text (c ∷ cs) = ap (option_map (λ rest. c ∷ rest)) (chars_of_text cs)
+
+-- whether a value is the empty text or begins with a character
+abbrev pub Begins : Tree → Type 0
+Begins Nil = Unit {0}
+Begins (Cell (Char c) rest) = Unit {0}
+Begins _ = ⊥
+
+-- what a text begins with
+abbrev pub IsFront : Tree → Front → Type 0
+IsFront t (F.End) = t ≡ Nil
+IsFront t (F.Letter c rest) = t ≡ Cell (Char c) rest.now
+IsFront t (F.NoText) = ¬ (Begins t)

@@ -2,7 +2,8 @@
 //!
 //! A value shares its parts, so that a copy costs the same for every value, and it carries its
 //! depth, which is at most [`MAX_DEPTH`]. Contracts see a value as a plain tree (`specs/Tree.antt`);
-//! what would be deeper is answered by [`Made::TooDeep`] and never built.
+//! what would be deeper is answered by [`Made::TooDeep`] and never built. Beside values and their parts
+//! (`value`) there are lists (`list`), texts (`text`), the order of values (`compare`) and messages (`message`).
 //!
 //! ```text
 //! let list = match Value::text(alloc, "ab")? {
@@ -13,9 +14,14 @@
 //! ```
 #![tactic(auto)]
 
+mod compare;
+mod list;
 pub mod message;
-pub mod text;
+mod text;
 pub mod value;
 
 pub use message::Message;
 pub use value::{Look, MAX_DEPTH, Made, Value};
+
+#[cfg(test)]
+mod tests;

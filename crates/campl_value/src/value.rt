@@ -1,5 +1,5 @@
 // A value: a tree with its depth, whose parts are shared.
-ghost use Rattle.std.specs.Prelude.{◌≡◌, ℕ, ◌+◌, ◌<◌, ◌≤◌, IfOk, [], ◌∷◌, max};
+ghost use Rattle.std.specs.Prelude.{◌≡◌, ◌+◌, ◌<◌, ◌≤◌, IfOk, SomeIff};
 ghost use Rattle.campl_value.specs.Tree.{Tree, Int, Char, Truth, Nil, Cell, Pair, built, depth_of, trees_of, deepest_of};
 ghost use Rattle.campl_value.specs.Made.{IsMade, Looks};
 
@@ -10,7 +10,8 @@ use std::sync::Arc;
 /// The greatest depth of a value. Making a deeper one answers [`Made::TooDeep`].
 pub const MAX_DEPTH: u32 = 4096;
 
-/// A value that a program computes with. It is made once, never changed, and may be read from any thread.
+/// A value that a program computes with. It never changes, may be used from any thread, and is dropped
+/// within 2 MiB of stack however deep it is.
 #[cycle(value)]
 #[derive(Drop)]
 pub struct Value {
@@ -160,50 +161,58 @@ impl Value {
         })
     }
 
-    /// The list of `head` before the items of `tail`. An error means that memory is out.
+    /// A cell: the list of `head` and behind it `tail`. An error means that memory is out, and drops both.
     pub fn cell(alloc: Global, head: Value, tail: Value) -> Result<Made, AllocError>
         ensures { IfOk result (λ made. IsMade (Cell head tail) made) }
     {
-        let below = head.depth().max(tail.depth());
-        if below >= MAX_DEPTH {
+        let Some(depth) = depth_above(head.depth().max(tail.depth())) else {
             return Ok(Made::TooDeep);
-        }
+        };
         let parts = Arc::new(alloc, (head, tail))?;
         Ok(Made::Is(Value {
-            depth: 1 + below,
+            depth,
             node: Node::Cell(parts),
         }))
     }
 
-    /// The pair of `first` and `second`. An error means that memory is out.
+    /// The pair of `first` and `second`. An error means that memory is out, and drops both.
     pub fn pair(alloc: Global, first: Value, second: Value) -> Result<Made, AllocError>
         ensures { IfOk result (λ made. IsMade (Pair first second) made) }
     {
-        let below = first.depth().max(second.depth());
-        if below >= MAX_DEPTH {
+        let Some(depth) = depth_above(first.depth().max(second.depth())) else {
             return Ok(Made::TooDeep);
-        }
+        };
         let parts = Arc::new(alloc, (first, second))?;
         Ok(Made::Is(Value {
-            depth: 1 + below,
+            depth,
             node: Node::Pair(parts),
         }))
     }
 
     /// The value of the constructor of this number with these parts, in order. An error means that
-    /// memory is out.
+    /// memory is out, and drops the parts.
     pub fn construct(alloc: Global, constructor: u32, parts: Vec<Value>) -> Result<Made, AllocError>
         ensures { IfOk result (λ made. IsMade (built constructor parts.items) made) }
     {
-        let below = deepest(parts.as_slice());
-        if below >= MAX_DEPTH {
+        let Some(depth) = depth_above(deepest(parts.as_slice())) else {
             return Ok(Made::TooDeep);
-        }
+        };
         let parts = Arc::new(alloc, parts)?;
         Ok(Made::Is(Value {
-            depth: 1 + below,
+            depth,
             node: Node::Built(constructor, parts),
         }))
+    }
+}
+
+// The depth of a value whose deepest part has the depth `below`, unless that is too deep.
+fn depth_above(below: u32) -> Option<u32>
+    ensures { SomeIff result (below < MAX_DEPTH) (below + 1) }
+{
+    if below < MAX_DEPTH {
+        Some(below + 1)
+    } else {
+        None
     }
 }
 
