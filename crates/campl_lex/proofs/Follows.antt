@@ -4,8 +4,8 @@ use Rattle.campl_tree.specs.declared.place.Place.{Place}
 use Rattle.campl_lex.specs.declared.token.Token.{Token}
 use Rattle.campl_lex.specs.declared.fault.LexFault.{LexFault}
 use Rattle.campl_lex.specs.declared.stack.Enclosure.{Enclosure}
-use Rattle.campl_lex.specs.Layout.{Put, onto, follow, adds, laid, before, behind, ended}
-use Rattle.std.specs.Prelude.{ℕ, ◌+◌, ◌<◌, ◌≤◌, length, get_or, drop}
+use Rattle.campl_lex.specs.Layout.{Put, onto, follow, adds, laid, before, behind, ended, Answers}
+use Rattle.std.specs.Prelude.{IsErr, IsErrAnd, Vec, ℕ, ◌+◌, ◌<◌, ◌≤◌, length, get_or, drop}
 use Rattle.std.proofs.lemmas.List.{drop_more, drop_all}
 
 pub adds_adds : (front more : List Token) (rest : Result (List Token) LexFault) → adds front (adds more rest) ≡ adds (front ++ more) rest
@@ -65,3 +65,8 @@ pub ends_here : (text : List ℕ) (end : Place) (stack : List Enclosure) (last :
     → laid text end stack last (drop i tokens) ≡ ended text end stack last
 unfolding laid
 ends_here text end stack last tokens i h = ap (laid text end stack last) (drop_all i tokens h)
+
+pub answers_from : {Z : Type 0} (wanted : Result (List Token) LexFault) (result : Result (Vec Token Z) LexFault) (P : LexFault → Type 0) → IsErr result × IsErrAnd result P
+    → ((fault : LexFault) → P fault → wanted ≡ Err fault) → Answers wanted result
+answers_from wanted (Ok tokens) P h k = absurd (h.1)
+answers_from wanted (Err fault) P h k = λ _. k fault h.1

@@ -1,2 +1,16 @@
 pub mod Stacks
 pub mod Follows
+pub mod Numbers
+pub mod Scanning
+pub mod Pieces
+pub mod Classes
+pub mod Runs
+pub mod Bounds
+pub mod Symbols
+pub mod Lexing
+pub mod Spots
+pub mod Escapes
+pub mod Families
+pub mod Literals
+pub mod Stands
+pub mod StandsLiteral
