@@ -31,3 +31,8 @@ UsesOnce g (e ∷ es) = Avoids g e es × UsesOnce g es
 -- no closed walk of at least one edge uses each of its edges once
 abbrev pub NoCycle : {E N : Type 0} → Graph E N → Type 0
 NoCycle {E} {N} g = (e : E) (es : List E) (u : N) → Walk g (e ∷ es) u u → UsesOnce g (e ∷ es) → ⊥
+
+-- each half's partner has it as its own partner, which is another half
+pub record Mutual {E : Type 0} (partner : E → Option E) : Type 0 where
+  pub back : (e f : E) → partner e ≡ Some f → partner f ≡ Some e
+  pub other : (e : E) → partner e ≢ Some e

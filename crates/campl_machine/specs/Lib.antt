@@ -1,5 +1,8 @@
 pub mod Names
 pub mod Machine
+pub mod Independence
 pub mod Runs
 pub mod Graph
-pub mod Independence
+pub mod Changes
+pub mod Progress
+pub mod Programs

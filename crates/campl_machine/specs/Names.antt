@@ -1,5 +1,5 @@
 -- Names of nodes (processes and services) and of the ends of channels, and the tests whether two are the same.
-use Rattle.std.specs.Prelude.{ℕ, Bool, true, false, List, [], ◌∷◌, ◌&&◌, eqb}
+use Rattle.std.specs.Prelude.{◌≡◌, ℕ, Bool, true, false, List, [], ◌∷◌, ◌&&◌, eqb}
 
 -- where a child stands in its family: the number of its parent's step, and its place among that step's children
 pub record Birth : Type 0 where
@@ -52,3 +52,8 @@ abbrev pub same_who : Who → Who → Bool
 same_who (Process p) (Process q) = same_path p q
 same_who (Service i) (Service j) = eqb i j
 same_who _ _ = false
+
+-- the test says whether two names are equal
+pub record TellsApart {K : Type 0} (same : K → K → Bool) : Type 0 where
+  pub is : (a b : K) → same a b ≡ true → a ≡ b
+  pub own : (a : K) → same a a ≡ true

@@ -1,1 +1,4 @@
 pub mod Side
+pub mod Plain
+pub mod View
+pub mod Places

@@ -1,0 +1,76 @@
+-- The four ways in which the command ends.
+use Rattle.std.proofs.Common.{◌≡◌, ◌<◌, ℕ, List, [], ◌∷◌, Option, Some, ◌⊎◌, inl, inr, ap, ap₂, sym, subst, ◌∙◌, map, refl, length, get_or}
+use Rattle.std.specs.Prelude.{All, chars, string_bytes}
+use Rattle.std.proofs.lemmas.List.{length-map}
+use Rattle.std.proofs.Math.ListN.{get_or-map}
+use Rattle.campl_meaning.specs.Reductions.{Configuration}
+use Rattle.campl_meaning.specs.States.{Transcript}
+use Rattle.campl_meaning.specs.Ends as e
+use Rattle.campl_meaning.specs.Output.{output_of}
+use Rattle.campl_config.specs.Journal.{plain_entries, weight_of}
+use Rattle.campl_cli.specs.declared.performance.Performance.{Performance}
+use Rattle.campl_cli.specs.declared.refusal.Refusal.{Refusal}
+use Rattle.campl_cli.specs.declared.refusal.Refusal.TheVariants.{OutOfMemory}
+use Rattle.campl_cli.specs.declared.report.Report.{Report}
+use Rattle.campl_cli.specs.Form.{Prints}
+use Rattle.campl_cli.specs.Refusals.{Files, IsAccepted, IsDue, status_of, line_of}
+use Rattle.campl_cli.specs.Performance.{IsPerformance, IsPrinted}
+use Rattle.campl_cli.specs.Answer.{Stream, Had, HadNothing, HasRun, IsAnswer, Ran, CouldNotPrint, WasRefused, CouldNotTell, IsTold, IsRefused, FailedIn, printed, step_budget}
+use Rattle.campl_cli.proofs.Printing.{Comes, printing-runs}
+
+-- what holds of each f x holds of each x behind f
+pub All-from_map : {A B : Type 0} (P : B → Type 0) (f : A → B) (xs : List A) → All P (map f xs) → All (λ x. P (f x)) xs
+All-from_map P f xs all k d h = subst P (get_or-map f xs k d) (all k (f d) (subst (λ n. k < n) (sym (length-map xs f)) h))
+
+module _ (words : List (List ℕ)) (files : Files) (out err : Stream) (report : Report) where
+  -- what ran and is printed or couldn't be
+  module _ (p : Prints) (performance : Performance) (done : IsPerformance p performance) (told : IsPrinted performance out err report) where
+    comes : Comes p (plain_entries report.journal.entries)
+    comes = printing-runs p (plain_entries report.journal.entries) done.fine (ap plain_entries told.entries ∙ done.journal)
+
+    has_run : HasRun p report comes.last
+    has_run = record {
+      run = comes.run;
+      end = comes.end report.steps step_budget;
+      steps = told.steps ∙ ap weight_of (sym told.entries);
+      ended = told.ended;
+    }
+
+    output_is : string_bytes performance.output ≡ printed p report comes.last
+    output_is =
+        done.output ∙ ap₂ (λ (transcript : Transcript) (steps : ℕ). output_of ((chars p.console, transcript) ∷ []) e.Finished [] steps) (sym comes.transcript) (sym told.steps)
+
+  pub answers_run : (p : Prints) (performance : Performance) → IsAccepted words files p → IsPerformance p performance → IsPrinted performance out err report → IsAnswer words files out err report
+  answers_run p performance accepted done told = elim told.written [
+    | inl written ↦ inl (record {
+      status = written.0;
+      source = p;
+      accepted = accepted;
+      last = (comes p performance done told).last;
+      run = has_run p performance done told;
+      output = subst (λ bytes. Had out bytes) (output_is p performance done told) written.1;
+      silent = written.2;
+    })
+    | inr failed ↦ inr (inl (record {
+      status = failed.0;
+      source = p;
+      accepted = accepted;
+      last = (comes p performance done told).last;
+      run = has_run p performance done told;
+      output = subst (λ bytes. FailedIn out bytes) (output_is p performance done told) failed.1;
+      told = failed.2;
+    }))
+  ]
+
+  -- what was refused and told, or couldn't be
+  told_answer : (refusal : Refusal) → IsDue words files refusal → HadNothing out → IsTold refusal err report → IsAnswer words files out err report
+  told_answer refusal due nothing told = elim told.answer [
+    | inl answer ↦ inr (inr (inl (record { refusal = refusal; status = answer.0; due = due; no_run = told.no_run; no_output = nothing; told = answer.1 })))
+    | inr answer ↦ inr (inr (inr (record { status = answer.0; refusal = refusal; due = due; other = answer.1; no_run = told.no_run; no_output = nothing; told = answer.2 })))
+  ]
+
+  pub answers_refusal : (refusal : Refusal) → IsDue words files refusal → HadNothing out → IsRefused refusal err report → IsAnswer words files out err report
+  answers_refusal refusal due nothing refused = elim refused [
+    | inl told ↦ told_answer refusal due nothing told
+    | inr told ↦ told_answer OutOfMemory tt nothing told
+  ]

@@ -1,0 +1,115 @@
+-- What the command answers, and what it has written by then.
+use Rattle.std.specs.Prelude.{◌≡◌, ◌≢◌, ℕ, ◌⊎◌, List, [], ◌∷◌, ◌++◌, Option, Some, None, chars}
+use Rattle.std.specs.Io.KnownBytes.{Appends}
+use Rattle.campl_text.specs.Counts.{Rose}
+use Rattle.campl_meaning.specs.Reductions.{Configuration}
+use Rattle.campl_meaning.specs.Ends.{IsEnd, transcript_of} 
+use Rattle.campl_meaning.specs.Ends as e
+use Rattle.campl_meaning.specs.Journals.{IsRunFromStart}
+use Rattle.campl_meaning.specs.Output.{output_of}
+use Rattle.campl_config.specs.Journal.{weight_of, plain_entries}
+use Rattle.campl_cli.specs.declared.refusal.Refusal.{Refusal}
+use Rattle.campl_cli.specs.declared.refusal.Refusal.TheVariants.{OutOfMemory}
+use Rattle.campl_cli.specs.declared.report.Report.{Report}
+use Rattle.campl_cli.specs.declared.report.Ended.TheVariants.{Finished}
+use Rattle.campl_cli.specs.Form.{Prints}
+use Rattle.campl_cli.specs.Printing.{source_of}
+use Rattle.campl_cli.specs.Refusals.{Files, IsAccepted, IsDue, status_of, line_of, write_fault_line}
+
+-- what a stream has had before and after the call, where it tells it, and its counts of faults
+pub record Stream : Type 0 where
+  pub before : Option (List ℕ)
+  pub after : Option (List ℕ)
+  pub faults_before : ℕ
+  pub faults_after : ℕ
+
+-- it has had nothing in this call
+abbrev pub HadNothing : Stream → Type 0
+HadNothing s = s.after ≡ s.before
+
+-- it has had exactly these bytes in this call
+abbrev pub Had : Stream → List ℕ → Type 0
+Had s bytes = Appends s.before s.after bytes
+
+-- its count of faults rose, and it has had no more than a front of these bytes
+abbrev pub FailedIn : Stream → List ℕ → Type 0
+FailedIn s bytes = Rose s.faults_before s.faults_after × ((front : List ℕ) × (rest : List ℕ) × (front ++ rest ≡ bytes) × Had s front)
+
+-- it has had these bytes, or failed in them
+abbrev pub HadOrFailed : Stream → List ℕ → Type 0
+HadOrFailed s bytes = Had s bytes ⊎ FailedIn s bytes
+
+-- the most steps of a run
+abbrev pub step_budget : ℕ
+step_budget = 100000
+
+-- the journal is a run of the source's reductions from its start to this configuration, which is finished
+pub record HasRun (p : Prints) (report : Report) (last : Configuration) : Type 0 where
+  pub run : IsRunFromStart (source_of p) [] (plain_entries report.journal.entries) last
+  pub end : IsEnd last report.steps step_budget e.Finished
+  pub steps : report.steps ≡ weight_of report.journal.entries
+  pub ended : report.ended ≡ Some Finished
+
+-- nothing ran
+pub record HasNoRun (report : Report) : Type 0 where
+  pub entries : report.journal.entries ≡ []
+  pub steps : report.steps ≡ 0
+  pub ended : report.ended ≡ None
+
+-- what a run prints that ends here
+abbrev pub printed : Prints → Report → Configuration → List ℕ
+printed p report last = output_of ((chars p.console, transcript_of last 0) ∷ []) e.Finished [] report.steps
+
+-- it ran, and its output is written
+pub record Ran (words : List (List ℕ)) (files : Files) (out err : Stream) (report : Report) : Type 0 where
+  pub status : report.status ≡ 0
+  pub source : Prints
+  pub accepted : IsAccepted words files source
+  pub last : Configuration
+  pub run : HasRun source report last
+  pub output : Had out (printed source report last)
+  pub silent : HadNothing err
+
+-- it ran, and its output couldn't be written
+pub record CouldNotPrint (words : List (List ℕ)) (files : Files) (out err : Stream) (report : Report) : Type 0 where
+  pub status : report.status ≡ 6
+  pub source : Prints
+  pub accepted : IsAccepted words files source
+  pub last : Configuration
+  pub run : HasRun source report last
+  pub output : FailedIn out (printed source report last)
+  pub told : HadOrFailed err write_fault_line
+
+-- it was refused, and the refusal's line is written; want of memory is answered also where its line couldn't be written
+pub record WasRefused (words : List (List ℕ)) (files : Files) (out err : Stream) (report : Report) : Type 0 where
+  pub refusal : Refusal
+  pub status : report.status ≡ status_of refusal
+  pub due : IsDue words files refusal
+  pub no_run : HasNoRun report
+  pub no_output : HadNothing out
+  pub told : Had err (line_of refusal) ⊎ ((refusal ≡ OutOfMemory) × FailedIn err (line_of refusal))
+
+-- it was refused, and the refusal's line couldn't be written
+pub record CouldNotTell (words : List (List ℕ)) (files : Files) (out err : Stream) (report : Report) : Type 0 where
+  pub status : report.status ≡ 6
+  pub refusal : Refusal
+  pub due : IsDue words files refusal
+  pub other : refusal ≢ OutOfMemory
+  pub no_run : HasNoRun report
+  pub no_output : HadNothing out
+  pub told : FailedIn err (line_of refusal)
+
+-- the four ways in which the command ends
+abbrev pub IsAnswer : List (List ℕ) → Files → (out err : Stream) → Report → Type 0
+IsAnswer words files out err report =
+    Ran words files out err report ⊎ (CouldNotPrint words files out err report ⊎ (WasRefused words files out err report ⊎ CouldNotTell words files out err report))
+
+-- the refusal's line is written and its status answered, or 6 where the line couldn't be written
+pub record IsTold (refusal : Refusal) (err : Stream) (report : Report) : Type 0 where
+  pub no_run : HasNoRun report
+  pub answer : ((report.status ≡ status_of refusal) × (Had err (line_of refusal) ⊎ ((refusal ≡ OutOfMemory) × FailedIn err (line_of refusal))))
+      ⊎ ((report.status ≡ 6) × (refusal ≢ OutOfMemory) × FailedIn err (line_of refusal))
+
+-- the same, but for want of memory, which may come in the place of the refusal
+abbrev pub IsRefused : Refusal → Stream → Report → Type 0
+IsRefused refusal err report = IsTold refusal err report ⊎ IsTold OutOfMemory err report

@@ -1,0 +1,28 @@
+-- What a run did and prints, before any of it is written.
+use Rattle.std.specs.Prelude.{◌≡◌, ℕ, ◌⊎◌, List, [], ◌∷◌, ◌++◌, Some, map, chars, string_bytes}
+use Rattle.campl_meaning.specs.States.{Took, WasClosed}
+use Rattle.campl_meaning.specs.Ends as e
+use Rattle.campl_meaning.specs.Output.{output_of}
+use Rattle.campl_config.specs.Journal.{weight_of, plain_entries}
+use Rattle.campl_cli.specs.declared.performance.Performance.{Performance}
+use Rattle.campl_cli.specs.declared.report.Report.{Report}
+use Rattle.campl_cli.specs.declared.report.Ended.TheVariants.{Finished}
+use Rattle.campl_cli.specs.Form.{Prints, IsFine}
+use Rattle.campl_cli.specs.Printing.{journal_of}
+use Rattle.campl_cli.specs.Refusals.{write_fault_line}
+use Rattle.campl_cli.specs.Answer.{Stream, Had, HadNothing, HadOrFailed, FailedIn}
+
+-- the journal of the run of these prints, and their output
+pub record IsPerformance (p : Prints) (performance : Performance) : Type 0 where
+  pub fine : IsFine p
+  pub journal : plain_entries performance.journal.entries ≡ journal_of (map chars p.texts)
+  pub output : string_bytes performance.output
+      ≡ output_of ((chars p.console, map Took (map chars p.texts) ++ (WasClosed ∷ [])) ∷ []) e.Finished [] (weight_of performance.journal.entries)
+
+-- the output is written, or couldn't be, and the run is reported
+pub record IsPrinted (performance : Performance) (out err : Stream) (report : Report) : Type 0 where
+  pub entries : report.journal.entries ≡ performance.journal.entries
+  pub steps : report.steps ≡ weight_of performance.journal.entries
+  pub ended : report.ended ≡ Some Finished
+  pub written : ((report.status ≡ 0) × Had out (string_bytes performance.output) × HadNothing err)
+      ⊎ ((report.status ≡ 6) × FailedIn out (string_bytes performance.output) × HadOrFailed err write_fault_line)

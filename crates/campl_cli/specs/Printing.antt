@@ -1,0 +1,63 @@
+-- The source that is of the form, and the journal of its run.
+use Rattle.std.specs.Prelude.{ℕ, List, [], ◌∷◌, ◌++◌, Option, Some, None, map, codes, chars}
+use Rattle.campl_value.specs.Text.{text_of}
+use Rattle.campl_meaning.specs.Commands.{Name, Source, Body, Then, Ends, Put, HPut, Halt, Text, Console}
+use Rattle.campl_meaning.specs.Kinds as k
+use Rattle.campl_meaning.specs.Journals.{Entry, Told, ToldWord, ToldPick}
+use Rattle.campl_cli.specs.Form.{Prints}
+
+-- the texts are put, and then the console is closed and the process halts
+abbrev pub printing : Name → List (List ℕ) → Body
+printing console [] = Then (HPut (codes "ConsoleClose") console) (Ends (Halt (Some console)))
+printing console (text ∷ texts) = Then (HPut (codes "ConsolePut") console) (Then (Put (Text text) console) (printing console texts))
+
+-- a process with one Console, which prints these texts
+abbrev pub source_of : Prints → Source
+source_of p = record {
+  services = record { name = chars p.console; kind = Console } ∷ [];
+  body = printing (chars p.console) (map chars p.texts);
+}
+
+-- the end of the channel that `run` holds, and the service's
+abbrev run_end : ℕ
+run_end = 0
+
+abbrev service_end : ℕ
+service_end = 1
+
+-- something happened at an end, with a message or without
+abbrev pub entry : ℕ → k.Kind → ℕ → Option Told → Entry
+entry process kind end message = record { process = process; kind = kind; weight = 1; end = Some end; second = None; message = message; child = None; channel = None; channel2 = None }
+
+abbrev pub sent_pick : ℕ → Entry
+sent_pick constructor = entry 0 k.Pick run_end (Some (ToldPick constructor))
+
+abbrev pub sent_text : List ℕ → Entry
+sent_text text = entry 0 k.Put run_end (Some (ToldWord (text_of text)))
+
+abbrev pub halted : Entry
+halted = entry 0 k.Halt run_end None
+
+abbrev pub took_pick : ℕ → Entry
+took_pick constructor = entry 1 k.ServePick service_end (Some (ToldPick constructor))
+
+abbrev pub took_text : List ℕ → Entry
+took_text text = entry 1 k.ServeText service_end (Some (ToldWord (text_of text)))
+
+-- the process sends two messages for each text
+abbrev pub sends : List (List ℕ) → List Entry
+sends [] = []
+sends (text ∷ texts) = sent_pick 0 ∷ (sent_text text ∷ sends texts)
+
+-- and the service takes them
+abbrev pub takes : List (List ℕ) → List Entry
+takes [] = []
+takes (text ∷ texts) = took_pick 0 ∷ (took_text text ∷ takes texts)
+
+-- what the service does
+abbrev pub serves : List (List ℕ) → List Entry
+serves texts = takes texts ++ (took_pick 2 ∷ [])
+
+-- the process makes all its actions, and then the service does: the run of one process at a time
+abbrev pub journal_of : List (List ℕ) → List Entry
+journal_of texts = sends texts ++ (sent_pick 2 ∷ (halted ∷ serves texts))

@@ -1,0 +1,75 @@
+-- Why the command ended before its run: each refusal with its status, its line, and when it is due.
+use Rattle.std.specs.Prelude.{◌≡◌, ◌≢◌, ℕ, ◌<◌, ◌≤◌, List, [], ◌∷◌, ◌++◌, Option, IfSome, codes, length, Err, Ok, ⊤}
+use Rattle.std.specs.Fmt.{decimal}
+use Rattle.campl_text.specs.Counts.{Rose}
+use Rattle.campl_text.specs.Marked.{without_mark}
+use Rattle.campl_text.specs.Reading.{IsReading}
+use Rattle.campl_text.specs.declared.reading.TextFault.TheVariants as t
+use Rattle.campl_cli.specs.declared.refusal.Refusal.{Refusal}
+use Rattle.campl_cli.specs.declared.refusal.Refusal.TheVariants.{BadCommandLine, ReadFault, TooLong, NotUtf8, NotBuilt, OutOfMemory}
+use Rattle.campl_cli.specs.Form.{Prints, IsFormOf}
+use Rattle.campl_cli.specs.Words.{IsCommand}
+
+-- the most bytes that a source has
+abbrev pub source_limit : ℕ
+source_limit = 1048576
+
+abbrev pub status_of : Refusal → ℕ
+status_of BadCommandLine = 2
+status_of TooLong = 3
+status_of (NotUtf8 at) = 3
+status_of NotBuilt = 3
+status_of ReadFault = 5
+status_of OutOfMemory = 7
+
+-- a line feed ends each line
+abbrev pub words_of : Refusal → List ℕ
+words_of BadCommandLine = codes "bad command line"
+words_of TooLong = codes "source is longer than 1048576 bytes"
+words_of (NotUtf8 at) = codes "source isn't UTF-8 at byte " ++ decimal at
+words_of NotBuilt = codes "E60 NotBuilt at 1:1"
+words_of ReadFault = codes "read fault"
+words_of OutOfMemory = codes "out of memory"
+
+abbrev pub line_of : Refusal → List ℕ
+line_of refusal = codes "campl: " ++ (words_of refusal ++ (10 ∷ []))
+
+-- the line of status 6
+abbrev pub write_fault_line : List ℕ
+write_fault_line = codes "campl: write fault" ++ (10 ∷ [])
+
+-- what the outside holds under each name, where it tells it, and its counts of faults before and after the call
+pub record Files : Type 0 where
+  pub held : List ℕ → Option (List ℕ)
+  pub before : List ℕ → ℕ
+  pub after : List ℕ → ℕ
+
+-- the contents are within the limit and UTF-8, and their text is this
+abbrev pub IsText : List ℕ → List ℕ → Type 0
+IsText contents text = IsReading contents source_limit (Ok text)
+
+-- the file's source is of the form, and prints this
+abbrev pub IsSource : Files → (file : List ℕ) → Prints → Type 0
+IsSource files file p = (text : List ℕ) × IsFormOf p text × IfSome (files.held file) (λ contents. IsText contents text)
+
+-- the words name a file whose source is of the form, and prints this
+abbrev pub IsAccepted : List (List ℕ) → Files → Prints → Type 0
+IsAccepted words files p = (file : List ℕ) × IsCommand words file × IsSource files file p
+
+-- when a file's source is refused so; want of memory alone comes freely
+abbrev pub IsRefusedSource : Files → (file : List ℕ) → Refusal → Type 0
+IsRefusedSource files file BadCommandLine = ⊥
+IsRefusedSource files file ReadFault = Rose (files.before file) (files.after file)
+IsRefusedSource files file TooLong = IfSome (files.held file) (λ contents. source_limit < length contents)
+IsRefusedSource files file (NotUtf8 at) = IfSome (files.held file) (λ contents. IsReading contents source_limit (Err (t.NotUtf8 at)))
+IsRefusedSource files file NotBuilt = (text : List ℕ) × ((p : Prints) → IsFormOf p text → ⊥) × IfSome (files.held file) (λ contents. IsText contents text)
+IsRefusedSource files file OutOfMemory = ⊤
+
+-- when a command is refused so: its words are no command, or the source of its file is refused
+abbrev pub IsDue : List (List ℕ) → Files → Refusal → Type 0
+IsDue words files BadCommandLine = (file : List ℕ) → IsCommand words file → ⊥
+IsDue words files ReadFault = (file : List ℕ) × IsCommand words file × IsRefusedSource files file ReadFault
+IsDue words files TooLong = (file : List ℕ) × IsCommand words file × IsRefusedSource files file TooLong
+IsDue words files (NotUtf8 at) = (file : List ℕ) × IsCommand words file × IsRefusedSource files file (NotUtf8 at)
+IsDue words files NotBuilt = (file : List ℕ) × IsCommand words file × IsRefusedSource files file NotBuilt
+IsDue words files OutOfMemory = ⊤

@@ -1,0 +1,88 @@
+//! The command: words, reading the source, the run, and the writing.
+ghost use Rattle.std.specs.Prelude.{MatchResult, IfErr, IfOk, map, string_bytes};
+ghost use Rattle.campl_cli.specs.Answer.{IsAnswer};
+ghost use Rattle.campl_cli.specs.Form.{Prints, prints_of};
+ghost use Rattle.campl_cli.specs.Performance.{IsPerformance};
+ghost use Rattle.campl_cli.specs.Refusals.{IsSource, IsRefusedSource, IsAccepted, IsDue};
+
+use crate::gate::Gate;
+use crate::performance::{Performance, perform, print};
+use crate::reader::{Printer, read_printer};
+use crate::refusal::{Refusal, SOURCE_LIMIT};
+use crate::refuse::refuse;
+use crate::report::Report;
+use crate::words::file_of;
+use campl_text::{Shelf, Sink, TextFault, read_text};
+use std::alloc::Global;
+use std::thread::Threads;
+
+/// Runs the command that the words give, which are those after the program's name: `run FILE`.
+///
+/// It reads the source FILE from the shelf, runs it, and writes its output onto `out`. Where it is refused it writes one line onto
+/// `err` instead. `docs/LANGUAGE.md` lists the statuses. The runtime and the gate serve runs of several workers.
+pub fn campl<R: Threads + Sync, F: Shelf, O: Sink, E: Sink, G: Gate>(
+    rt: &R,
+    alloc: Global,
+    words: &[String],
+    shelf: &mut F,
+    out: &mut O,
+    err: &mut E,
+    gate: &G,
+) -> Report
+    ensures { IsAnswer (map string_bytes words.now)
+        (record { held = F.holds shelf.old; before = F.faults shelf.old; after = F.faults shelf.new })
+        (record { before = O.written out.old; after = O.written out.new; faults_before = O.faults out.old; faults_after = O.faults out.new })
+        (record { before = E.written err.old; after = E.written err.new; faults_before = E.faults err.old; faults_after = E.faults err.new })
+        result }
+{
+    let _ = rt;
+    let _ = gate;
+    match perform_words(alloc, words, shelf) {
+        Ok(performance) => print(performance, out, err),
+        Err(refusal) => refuse(alloc, refusal, err),
+    }
+}
+
+// Runs the source of the file that the words name.
+fn perform_words<F: Shelf>(alloc: Global, words: &[String], shelf: &mut F) -> Result<Performance, Refusal>
+    ensures { MatchResult result
+        (λ performance. (p : Prints) × IsAccepted (map string_bytes words.now) (record { held = F.holds shelf.old; before = F.faults shelf.old; after = F.faults shelf.new }) p × IsPerformance p performance)
+        (IsDue (map string_bytes words.now) (record { held = F.holds shelf.old; before = F.faults shelf.old; after = F.faults shelf.new })) }
+{
+    match file_of(words) {
+        Some(file) => perform_file(alloc, file, shelf),
+        None => Err(Refusal::BadCommandLine),
+    }
+}
+
+// Runs the source of a file.
+fn perform_file<F: Shelf>(alloc: Global, file: &str, shelf: &mut F) -> Result<Performance, Refusal>
+    ensures { MatchResult result
+        (λ performance. (p : Prints) × IsSource (record { held = F.holds shelf.old; before = F.faults shelf.old; after = F.faults shelf.new }) file.now p × IsPerformance p performance)
+        (IsRefusedSource (record { held = F.holds shelf.old; before = F.faults shelf.old; after = F.faults shelf.new }) file.now) }
+{
+    let printer = read_source(alloc, file, shelf)?;
+    match perform(alloc, &printer) {
+        Ok(performance) => Ok(performance),
+        Err(_) => Err(Refusal::OutOfMemory),
+    }
+}
+
+// Reads the source of a file into its parts.
+fn read_source<F: Shelf>(alloc: Global, file: &str, shelf: &mut F) -> Result<Printer, Refusal>
+    ensures { MatchResult result
+        (λ printer. IsSource (record { held = F.holds shelf.old; before = F.faults shelf.old; after = F.faults shelf.new }) file.now (prints_of printer))
+        (IsRefusedSource (record { held = F.holds shelf.old; before = F.faults shelf.old; after = F.faults shelf.new }) file.now) }
+{
+    match read_text(alloc, shelf, file, SOURCE_LIMIT) {
+        Ok(text) => match read_printer(alloc, text.as_str()) {
+            Ok(Some(printer)) => Ok(printer),
+            Ok(None) => Err(Refusal::NotBuilt),
+            Err(_) => Err(Refusal::OutOfMemory),
+        },
+        Err(TextFault::ReadFault) => Err(Refusal::ReadFault),
+        Err(TextFault::TooLong) => Err(Refusal::TooLong),
+        Err(TextFault::NotUtf8 { at }) => Err(Refusal::NotUtf8 { at }),
+        Err(TextFault::OutOfMemory) => Err(Refusal::OutOfMemory),
+    }
+}

@@ -1,0 +1,45 @@
+//! Why a command ends before its run.
+ghost use Rattle.std.specs.Prelude.{◌≡◌};
+ghost use Rattle.campl_cli.specs.Refusals.{status_of};
+
+use thiserror::Error;
+
+/// The most bytes that a source has.
+pub const SOURCE_LIMIT: u64 = 1_048_576;
+
+/// Why a command ended before its run.
+#[derive(Clone, Copy, Debug, PartialEq, Eq, Error)]
+pub enum Refusal {
+    /// The words are no command.
+    #[error("bad command line")]
+    BadCommandLine,
+    /// The source is longer than `SOURCE_LIMIT`.
+    #[error("source is longer than {limit} bytes", limit = SOURCE_LIMIT)]
+    TooLong,
+    /// The source isn't UTF-8; its longest front that is has `at` bytes.
+    #[error("source isn't UTF-8 at byte {at}")]
+    NotUtf8 { at: u64 },
+    /// The source isn't of the form that runs so far.
+    #[error("E60 NotBuilt at 1:1")]
+    NotBuilt,
+    /// The source can't be read.
+    #[error("read fault")]
+    ReadFault,
+    /// Memory ran out.
+    #[error("out of memory")]
+    OutOfMemory,
+}
+
+impl Refusal {
+    /// The exit status that goes with it.
+    pub fn status(self) -> u8
+        ensures { result ≡ status_of self }
+    {
+        match self {
+            Refusal::BadCommandLine => 2,
+            Refusal::TooLong | Refusal::NotUtf8 { .. } | Refusal::NotBuilt => 3,
+            Refusal::ReadFault => 5,
+            Refusal::OutOfMemory => 7,
+        }
+    }
+}

@@ -1,0 +1,76 @@
+//! Tells a refusal on the stream of errors.
+ghost use Rattle.std.specs.Prelude.{◌≡◌, ◌≢◌, ◌⊎◌};
+ghost use Rattle.campl_cli.specs.Refusals.{line_of, status_of};
+ghost use Rattle.campl_cli.specs.Answer.{IsTold, IsRefused, HasNoRun};
+
+use crate::refusal::Refusal;
+use crate::report::Report;
+use campl_config::Journal;
+use campl_text::{Sink, write_all_of};
+use std::alloc::Global;
+
+/// The status where writing failed.
+pub const WRITE_FAULT: u8 = 6;
+
+/// Writes the refusal's line, and answers its status, or 6 where the line couldn't be written. Where there is no memory for the
+/// line, want of memory is told instead.
+pub fn refuse<E: Sink>(alloc: Global, refusal: Refusal, err: &mut E) -> Report
+    ensures { IsRefused refusal (record { before = E.written err.old; after = E.written err.new; faults_before = E.faults err.old; faults_after = E.faults err.new }) result }
+{
+    let line = match refusal {
+        Refusal::BadCommandLine => "campl: bad command line\n",
+        Refusal::TooLong => "campl: source is longer than 1048576 bytes\n",
+        Refusal::NotUtf8 { at } => return refuse_bytes(alloc, at, err),
+        Refusal::NotBuilt => "campl: E60 NotBuilt at 1:1\n",
+        Refusal::ReadFault => "campl: read fault\n",
+        Refusal::OutOfMemory => OUT_OF_MEMORY_LINE,
+    };
+    tell(alloc, refusal, line, err)
+}
+
+/// The line that tells want of memory; writing it takes none.
+const OUT_OF_MEMORY_LINE: &str = "campl: out of memory\n";
+
+// The source isn't UTF-8 from this byte on.
+fn refuse_bytes<E: Sink>(alloc: Global, at: u64, err: &mut E) -> Report
+    ensures { IsRefused (Refusal.NotUtf8 at) (record { before = E.written err.old; after = E.written err.new; faults_before = E.faults err.old; faults_after = E.faults err.new }) result }
+{
+    match format!(in alloc; "campl: source isn't UTF-8 at byte {at}\n") {
+        Ok(line) => tell(alloc, Refusal::NotUtf8 { at }, line.as_str(), err),
+        Err(_) => tell(alloc, Refusal::OutOfMemory, OUT_OF_MEMORY_LINE, err),
+    }
+}
+
+// Writes the line, and answers that nothing ran.
+fn tell<E: Sink>(alloc: Global, refusal: Refusal, line: &str, err: &mut E) -> Report
+    requires { line.now ≡ line_of refusal }
+    ensures { IsTold refusal (record { before = E.written err.old; after = E.written err.new; faults_before = E.faults err.old; faults_after = E.faults err.new }) result }
+{
+    match write_all_of(err, line.as_bytes()) {
+        Ok(()) => nothing_ran(alloc, refusal.status()),
+        Err(_) => nothing_ran(alloc, status_unwritten(refusal)),
+    }
+}
+
+// Want of memory keeps its status where its line can't be written.
+fn status_unwritten(refusal: Refusal) -> u8
+    ensures { ((refusal ≡ Refusal.OutOfMemory) × (result ≡ status_of refusal)) ⊎ ((refusal ≢ Refusal.OutOfMemory) × (result ≡ 6)) }
+{
+    match refusal {
+        Refusal::OutOfMemory => refusal.status(),
+        _ => WRITE_FAULT,
+    }
+}
+
+// The answer of this status where nothing ran.
+fn nothing_ran(alloc: Global, status: u8) -> Report
+    ensures status { result.status ≡ status }
+    ensures no_run { HasNoRun result }
+{
+    Report {
+        status,
+        ended: None,
+        steps: 0,
+        journal: Journal::new(alloc),
+    }
+}

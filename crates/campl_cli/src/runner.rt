@@ -1,0 +1,97 @@
+//! Runs a printing source one process at a time, and keeps its journal.
+ghost use Rattle.std.specs.Prelude.{◌≡◌, ◌+◌, ◌*◌, ◌<◌, ◌≤◌, ◌^◌, ◌∷◌, [], ◌++◌, Some, None, OnOk, IfOk, All, length, map, option_map, chars, string_bytes};
+ghost use Rattle.campl_value.specs.Text.{text_of};
+ghost use Rattle.campl_config.specs.Journal.{plain_entries, weight_of};
+ghost use Rattle.campl_config.specs.Entry.{plain_kind, told};
+ghost use Rattle.campl_cli.specs.Form.{IsText};
+ghost use Rattle.campl_cli.specs.Printing.{entry, sends, takes, journal_of};
+
+use campl_config::{Entry, Journal, Kind};
+use campl_value::{Made, Message, Value};
+use std::alloc::{AllocError, Global};
+
+/// The numbers of the constructors of `Console`, by their lines.
+const CONSOLE_PUT: u32 = 0;
+const CONSOLE_CLOSE: u32 = 2;
+
+/// `run` is process 0 and its console's service is 1; of their channel `run` has end 0 and the service has end 1.
+const RUN: u32 = 0;
+const SERVICE: u32 = 1;
+
+/// Makes the whole run of a process that prints these texts on its console, closes it and halts: first all actions of the
+/// process, which waits for nobody, and then all of the service.
+pub fn run(alloc: Global, texts: &[String]) -> Result<Journal, AllocError>
+    requires plain { All (λ text. IsText (string_bytes text)) texts.now }
+    requires few { length texts.now ≤ 1000 }
+    ensures { IfOk result (λ journal. plain_entries journal.entries ≡ journal_of (map chars (map string_bytes texts.now))) }
+{
+    let mut journal = Journal::new(alloc);
+    send_all(alloc, texts, &mut journal)?;
+    record(&mut journal, RUN, Kind::Pick, Some(Message::Pick(CONSOLE_CLOSE)))?;
+    record(&mut journal, RUN, Kind::Halt, None)?;
+    take_all(alloc, texts, &mut journal)?;
+    record(&mut journal, SERVICE, Kind::ServePick, Some(Message::Pick(CONSOLE_CLOSE)))?;
+    Ok(journal)
+}
+
+// `run` puts each text.
+fn send_all(alloc: Global, texts: &[String], journal: &mut Journal) -> Result<(), AllocError>
+    requires plain { All (λ text. IsText (string_bytes text)) texts.now }
+    requires room { weight_of journal.old.entries + 2 * length texts.now < 2 ^ 32 }
+    ensures told { OnOk result (plain_entries journal.new.entries ≡ plain_entries journal.old.entries ++ sends (map chars (map string_bytes texts.now))) }
+    ensures weight { OnOk result (weight_of journal.new.entries ≡ weight_of journal.old.entries + 2 * length texts.now) }
+{
+    for text in texts {
+        record(journal, RUN, Kind::Pick, Some(Message::Pick(CONSOLE_PUT)))?;
+        record(journal, RUN, Kind::Put, Some(word(alloc, text.as_str())?))?;
+    }
+    Ok(())
+}
+
+// The service takes each text.
+fn take_all(alloc: Global, texts: &[String], journal: &mut Journal) -> Result<(), AllocError>
+    requires plain { All (λ text. IsText (string_bytes text)) texts.now }
+    requires room { weight_of journal.old.entries + 2 * length texts.now < 2 ^ 32 }
+    ensures told { OnOk result (plain_entries journal.new.entries ≡ plain_entries journal.old.entries ++ takes (map chars (map string_bytes texts.now))) }
+    ensures weight { OnOk result (weight_of journal.new.entries ≡ weight_of journal.old.entries + 2 * length texts.now) }
+{
+    for text in texts {
+        record(journal, SERVICE, Kind::ServePick, Some(Message::Pick(CONSOLE_PUT)))?;
+        record(journal, SERVICE, Kind::ServeText, Some(word(alloc, text.as_str())?))?;
+    }
+    Ok(())
+}
+
+// A message that is a text.
+fn word(alloc: Global, text: &str) -> Result<Message, AllocError>
+    requires { length (chars text.now) ≤ 1024 }
+    ensures { IfOk result (λ message. message ≡ Message.Word (text_of (chars text.now))) }
+{
+    match Value::text(alloc, text)? {
+        Made::Is(value) => Ok(Message::Word(value)),
+        Made::TooDeep => unreachable!(),
+    }
+}
+
+// One reduction at the console's channel goes into the journal.
+fn record(journal: &mut Journal, process: u32, kind: Kind, message: Option<Message>) -> Result<(), AllocError>
+    requires { weight_of journal.old.entries + 1 < 2 ^ 64 }
+    ensures told { OnOk result (plain_entries journal.new.entries ≡ plain_entries journal.old.entries ++ entry process (plain_kind kind) process (option_map told message) ∷ []) }
+    ensures weight { OnOk result (weight_of journal.new.entries ≡ weight_of journal.old.entries + 1) }
+{
+    let entry = Entry {
+        process,
+        kind,
+        weight: 1,
+        end: Some(process),
+        second: None,
+        message,
+        child: None,
+        channel: None,
+        channel2: None,
+    };
+    match journal.push(entry) {
+        Ok(()) => Ok(()),
+        Err(_) => Err(AllocError),
+    }
+}

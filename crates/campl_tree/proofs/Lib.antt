@@ -1,0 +1,3 @@
+mod NameText
+pub mod Views
+mod Examples

@@ -1,0 +1,6 @@
+pub mod SeqType
+pub mod ChanType
+pub mod Pattern
+pub mod Expr
+pub mod Process
+pub mod Decl

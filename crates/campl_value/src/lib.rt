@@ -1,0 +1,27 @@
+//! Values that programs compute with: integers, characters, truths, lists, pairs and constructors.
+//!
+//! A value shares its parts, so that a copy costs the same for every value, and it carries its
+//! depth, which is at most [`MAX_DEPTH`]. Contracts see a value as a plain tree (`specs/Tree.antt`);
+//! what would be deeper is answered by [`Made::TooDeep`] and never built. Beside values and their parts
+//! (`value`) there are lists (`list`), texts (`text`), the order of values (`compare`) and messages (`message`).
+//!
+//! ```text
+//! let list = match Value::text(alloc, "ab")? {
+//!     Made::Is(list) => list,
+//!     Made::TooDeep => return Ok(None),
+//! };
+//! let same = list.copy()?; // of depth 3, as is `list`
+//! ```
+#![tactic(auto)]
+
+mod compare;
+mod list;
+pub mod message;
+mod text;
+pub mod value;
+
+pub use message::Message;
+pub use value::{Look, MAX_DEPTH, Made, Value};
+
+#[cfg(test)]
+mod tests;
