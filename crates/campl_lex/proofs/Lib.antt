@@ -14,3 +14,9 @@ pub mod Families
 pub mod Literals
 pub mod Stands
 pub mod StandsLiteral
+pub mod SoundLiteral
+pub mod Sound
+pub mod Only
+pub mod Whole
+pub mod Written
+pub mod Told

@@ -32,7 +32,7 @@ use Rattle.campl_lex.proofs.Literals.{scan_is, finds, Found}
 use Rattle.std.proofs.Common.{inl, inr, ◌⊎◌}
 use Rattle.campl_lex.proofs.Stands.{apart, same_head, same_tail, Front, Stands}
 
-quote_cases : (q : ℕ) → is_quote q ≡ true → (q ≡ 34) ⊎ (q ≡ 39)
+pub quote_cases : (q : ℕ) → is_quote q ≡ true → (q ≡ 34) ⊎ (q ≡ 39)
 quote_cases q h = by (eqb q 34) refl (eqb q 39) refl
   where
     by : (x : Bool) → eqb q 34 ≡ x → (y : Bool) → eqb q 39 ≡ y → (q ≡ 34) ⊎ (q ≡ 39)
@@ -41,13 +41,13 @@ quote_cases q h = by (eqb q 34) refl (eqb q 39) refl
     by false e false f = apart (is_quote q) h (ap (λ t. t || q == 39) e ∙ ap (λ t. false || t) f)
 
 -- why a literal stopped
-abbrev Why : Stop → ℕ → List ℕ → Type 0
+abbrev pub Why : Stop → ℕ → List ℕ → Type 0
 Why stop.Tab q rest = (r : List ℕ) × (rest ≡ 9 ∷ r)
 Why stop.LineEnd q rest = ends_line rest ≡ true
 Why stop.Quote q rest = (r : List ℕ) × (rest ≡ q ∷ r)
 Why stop.Backslash q rest = (r : List ℕ) × (rest ≡ 92 ∷ r) × (escape_len r ≡ 0)
 
-why_from : (q : ℕ) (rest : List ℕ) (why : Stop) → stop_of q rest ≡ Some why → Why why q rest
+pub why_from : (q : ℕ) (rest : List ℕ) (why : Stop) → stop_of q rest ≡ Some why → Why why q rest
 why_from q [] why h = let e : stop.LineEnd ≡ why = cc in subst (λ s. Why s q []) e refl
 why_from q (c ∷ r) why h = by (eqb c 9) refl (eqb c 10) refl (eqb c q) refl (eqb c 92) refl (eqb (escape_len r) 0) refl h
   where
@@ -66,21 +66,21 @@ why_from q (c ∷ r) why h = by (eqb c 9) refl (eqb c 10) refl (eqb c q) refl (e
     by false t false f false g true i false j h = cc
     by false t false f false g false i z j h = cc
 
-tab_stops : (q : ℕ) (r : List ℕ) → stop_of q (9 ∷ r) ≡ Some stop.Tab
+pub tab_stops : (q : ℕ) (r : List ℕ) → stop_of q (9 ∷ r) ≡ Some stop.Tab
 tab_stops q r = refl
 
-line_stops : (q : ℕ) (rest : List ℕ) → ends_line rest ≡ true → stop_of q rest ≡ Some stop.LineEnd
+pub line_stops : (q : ℕ) (rest : List ℕ) → ends_line rest ≡ true → stop_of q rest ≡ Some stop.LineEnd
 line_stops q [] h = refl
 line_stops q (c ∷ r) h = let same : c ≡ 10 = grind (arith, nat_tests) in subst (λ x. stop_of q (x ∷ r) ≡ Some stop.LineEnd) (sym same) refl
 
-quote_stops : (q : ℕ) (r : List ℕ) → is_quote q ≡ true → stop_of q (q ∷ r) ≡ Some stop.Quote
+pub quote_stops : (q : ℕ) (r : List ℕ) → is_quote q ≡ true → stop_of q (q ∷ r) ≡ Some stop.Quote
 quote_stops q r h = by (quote_cases q h)
   where
     by : (q ≡ 34) ⊎ (q ≡ 39) → stop_of q (q ∷ r) ≡ Some stop.Quote
     by (inl e) = subst (λ x. stop_of x (x ∷ r) ≡ Some stop.Quote) (sym e) refl
     by (inr e) = subst (λ x. stop_of x (x ∷ r) ≡ Some stop.Quote) (sym e) refl
 
-backslash_stops : (q : ℕ) (r : List ℕ) → is_quote q ≡ true → escape_len r ≡ 0 → stop_of q (92 ∷ r) ≡ Some stop.Backslash
+pub backslash_stops : (q : ℕ) (r : List ℕ) → is_quote q ≡ true → escape_len r ≡ 0 → stop_of q (92 ∷ r) ≡ Some stop.Backslash
 backslash_stops q r h z = by (quote_cases q h)
   where
     zero_len : eqb (escape_len r) 0 ≡ true
@@ -91,12 +91,12 @@ backslash_stops q r h z = by (quote_cases q h)
     by (inr e) = subst (λ x. stop_of x (92 ∷ r) ≡ Some stop.Backslash) (sym e) (rw zero_len refl)
 
 -- what a literal is, by where it stops
-literal_is : (p : Place) (q : ℕ) {w ds : List ℕ} (rest : List ℕ) (why : Stop) → is_quote q ≡ true → Spells q w ds → stop_of q rest ≡ Some why
+pub literal_is : (p : Place) (q : ℕ) {w ds : List ℕ} (rest : List ℕ) (why : Stop) → is_quote q ≡ true → Spells q w ds → stop_of q rest ≡ Some why
     → literal p q (w ++ rest) ≡ literal_by why p q (record { stop = why; length = length w; count = length ds })
 literal_is p q rest why h s e = ap (λ b. literal_by b.stop p q b) (scan_is q rest why h s e)
 
 -- no spelling of a literal is longer than the literal
-literal_most : (q : ℕ) (w ds r : List ℕ) → is_quote q ≡ true → Spells q w ds → (x y : List ℕ) → x ++ y ≡ q ∷ (w ++ q ∷ r) → IsSpelling x → length x ≤ length w + 2
+pub literal_most : (q : ℕ) (w ds r : List ℕ) → is_quote q ≡ true → Spells q w ds → (x y : List ℕ) → x ++ y ≡ q ∷ (w ++ q ∷ r) → IsSpelling x → length x ≤ length w + 2
 literal_most q w ds r h s [] y e k = omega arith
 literal_most q w ds r h s (a ∷ x) y e k =
     let same : a ≡ q = same_head a q (x ++ y) (w ++ q ∷ r) e in

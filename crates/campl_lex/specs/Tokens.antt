@@ -1,13 +1,13 @@
 -- The tokens of a text, as a relation between the whole text and a list of tokens or a first fault.
-use Rattle.std.specs.Prelude.{◌≡◌, ◌≢◌, ℕ, ◌<◌, ◌≤◌, Bool, true, false, ◌==◌, not, ◌&&◌, ◌||◌, List, [], ◌∷◌, ◌++◌, length, Result, Ok, Err}
+use Rattle.std.specs.Prelude.{◌≡◌, ◌≢◌, ℕ, ◌<◌, ◌≤◌, Bool, true, false, ◌==◌, not, ◌&&◌, ◌||◌, List, [], ◌∷◌, ◌++◌, length, Result, Ok, Err, MatchResult, Vec}
 use Rattle.std.specs.List.{list_all}
 use Rattle.campl_tree.specs.declared.place.Place.{Place}
 use Rattle.campl_lex.specs.declared.limits.TheConstants.{NAME_MAX, TEXT_MAX, NUMBER_MAX}
 use Rattle.campl_lex.specs.declared.token.Token.{Token}
 use Rattle.campl_lex.specs.declared.spot.Spot.{Spot}
 use Rattle.campl_lex.specs.declared.fault.LexFault.{LexFault}
-use Rattle.campl_lex.specs.declared.fault.LexFault.TheVariants.{BadCharacter, OpenString, BadEscape, NumberTooLarge, NameTooLong, Tab, TextTooLong}
-use Rattle.campl_lex.specs.Spot.{place_past, past}
+use Rattle.campl_lex.specs.declared.fault.LexFault.TheVariants.{BadCharacter, OpenString, BadEscape, NumberTooLarge, NameTooLong, Tab, TextTooLong, OutOfMemory}
+use Rattle.campl_lex.specs.Spot.{place_past, past, first_spot}
 use Rattle.campl_lex.specs.Spelling.{is_name, is_number, number_of, is_symbol, kind_of}
 use Rattle.campl_lex.specs.Literal.{IsEscape, Spells}
 use Rattle.campl_lex.specs.Layout.{adds}
@@ -90,3 +90,7 @@ pub data Lexes : Spot → List ℕ → Result (List Token) LexFault → Type 0 w
   skips : {s : Spot} (w rest : List ℕ) {r : Result (List Token) LexFault} → IsBlank w rest → Lexes (past s w) rest r → Lexes s (w ++ rest) r
   takes : {s : Spot} (w rest : List ℕ) {r : Result (List Token) LexFault} → IsToken w rest → Lexes (past s w) rest r → Lexes s (w ++ rest) (adds (token s w ∷ []) r)
   fails : {s : Spot} {text : List ℕ} {fault : LexFault} → Offends s.place text fault → Lexes s text (Err fault)
+
+-- what is to be answered for a text: its tokens, or its first fault; want of memory is always allowed
+abbrev pub Tells : {Z : Type 0} → List ℕ → Result (Vec Token Z) LexFault → Type 0
+Tells letters result = MatchResult result (λ tokens. Lexes first_spot letters (Ok tokens.items)) (λ fault. fault ≢ OutOfMemory → Lexes first_spot letters (Err fault))

@@ -1,9 +1,12 @@
 //! Tokens of a text.
-ghost use Rattle.std.specs.Prelude.{◌≡◌, ◌≢◌, ◌+◌, ◌++◌, ◌<◌, ◌≤◌, ◌^◌, Ok, Err, IfOk, IfErr, OnOk, MatchResult, length, chars};
+ghost use Rattle.std.specs.Prelude.{◌≡◌, ◌≢◌, ℕ, List, Result, ◌+◌, ◌++◌, ◌<◌, ◌≤◌, ◌^◌, Ok, Err, IfOk, IfErr, OnOk, MatchResult, length, chars};
 ghost use Rattle.std.specs.List.{All};
 ghost use Rattle.campl_lex.specs.Spot.{first_spot, first_place, place_past, bytes};
 ghost use Rattle.campl_lex.specs.Reading.{lexed, tokens_of};
 ghost use Rattle.campl_lex.specs.Layout.{Answers, IsWritten};
+ghost use Rattle.campl_lex.specs.Tokens.{Lexes, Tells};
+ghost use Rattle.campl_lex.specs.declared.token.Token.{Token};
+ghost use Rattle.campl_lex.specs.declared.fault.LexFault.{LexFault};
 ghost use Rattle.campl_lex.specs.declared.fault.LexFault.TheVariants.{OutOfMemory};
 
 use crate::fault::LexFault;
@@ -14,18 +17,28 @@ use campl_text::Text;
 use campl_tree::Place;
 use std::alloc::{AllocError, Global};
 
-/// The tokens of a text, in order; or its first fault.
+/// The tokens of a text, in order, each the longest that begins at its place; or the text's first fault.
+///
+/// White space and comments are left out. Spans count bytes. `BadColumn` doesn't come.
 pub fn lex(alloc: Global, text: &Text) -> Result<Vec<Token>, LexFault>
-    ensures { Answers (lexed 0 first_spot (chars text.now)) result }
+    ensures tells { Tells (chars text.now) result }
+    ensures finds { (wanted : Result (List Token) LexFault) → Lexes first_spot (chars text.now) wanted → Answers wanted result }
+    ensures written { IfOk result (λ tokens. All (IsWritten text.now) tokens.items) }
 {
     let letters = letters(alloc, text)?;
     tokens_of(alloc, &letters)
 }
 
+/// A text has one list of tokens or one first fault, and never both.
+pub fn one_answer()
+    ensures { (text : List ℕ) (x y : Result (List Token) LexFault) → Lexes first_spot text x → Lexes first_spot text y → x ≡ y }
+{}
+
 /// The characters of a text.
 fn letters(alloc: Global, text: &Text) -> Result<Vec<char>, AllocError>
     ensures letters { IfOk result (λ v. v.items ≡ chars text.now) }
-    ensures small { bytes (chars text.now) ≤ 4294967294 }
+    ensures bytes { bytes (chars text.now) ≡ length text.now }
+    ensures small { length text.now ≤ 4294967294 }
 {
     text.as_str().chars().collect(alloc)
 }

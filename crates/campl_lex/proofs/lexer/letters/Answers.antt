@@ -1,4 +1,4 @@
-use Rattle.std.proofs.Common.{rules, arith}
+use Rattle.std.proofs.Common.{rules}
 use Rattle.std.proofs.lemmas.Str.{chars_from_encodes}
 use Rattle.campl_lex.proofs.Spots.{bytes-chars}
 use Rattle.campl_lex.proofs.lexer.letters.Goals as goal
@@ -6,5 +6,5 @@ use Rattle.campl_lex.proofs.lexer.letters.Goals as goal
 pub returns-clause-letters : goal.returns-clause-letters
 returns-clause-letters c = search (rules, chars_from_encodes)
 
-pub returns-clause-small : goal.returns-clause-small
-returns-clause-small c = omega (arith, bytes-chars c.args.text.now c.as_str.ensures.utf8, c.as_str.ensures.within)
+pub returns-clause-bytes : goal.returns-clause-bytes
+returns-clause-bytes c = bytes-chars c.args.text.now c.as_str.ensures.utf8
