@@ -20,3 +20,4 @@ pub mod Only
 pub mod Whole
 pub mod Written
 pub mod Told
+pub mod Braces

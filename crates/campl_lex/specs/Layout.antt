@@ -142,3 +142,25 @@ Answers wanted result = MatchResult result (λ tokens. wanted ≡ Ok tokens.item
 -- what a step of layout leaves: its tokens and what is open; want of memory is always allowed
 abbrev pub Puts : Put → List Token → Result (Unit {0}) LexFault → List Token → List Enclosure → Type 0
 Puts put out result new stack = MatchResult result (λ _. onto out put ≡ Ok (new, stack)) (λ fault. fault ≢ OutOfMemory → put ≡ Err fault)
+
+-- how many braces are open behind a token, where n + 1 were
+abbrev pub level : TokenKind → ℕ → ℕ
+level Open n = suc (suc n)
+level Close n = n
+level kind n = suc n
+
+-- n braces are open before these tokens, which close them all, the outermost with their last
+abbrev pub is_enclosed : ℕ → List Token → Bool
+is_enclosed zero [] = true
+is_enclosed zero (t ∷ ts) = false
+is_enclosed (suc n) [] = false
+is_enclosed (suc n) (t ∷ ts) = is_enclosed (level t.kind n) ts
+
+abbrev pub is_opening : TokenKind → Bool
+is_opening Open = true
+is_opening kind = false
+
+-- the tokens begin with `{`, their braces are balanced, and the last closes the first
+abbrev pub IsWhole : List Token → Type 0
+IsWhole [] = ⊥
+IsWhole (t ∷ ts) = (is_opening t.kind ≡ true) × (is_enclosed 1 ts ≡ true)

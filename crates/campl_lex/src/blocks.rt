@@ -1,8 +1,8 @@
 //! Layout: where `{`, `}` and `;` stand between the tokens of a source.
-ghost use Rattle.std.specs.Prelude.{◌≡◌, ◌≢◌, ℕ, ◌+◌, ◌≤◌, suc, [], ◌∷◌, ◌++◌, Ok, Err, None, MatchResult, IfOk, IfErr, IfSome, OnOk, length, drop, slice_range, replicate};
+ghost use Rattle.std.specs.Prelude.{◌≡◌, ◌≢◌, ℕ, ◌+◌, ◌*◌, ◌≤◌, suc, [], ◌∷◌, ◌++◌, Ok, Err, None, MatchResult, IfOk, IfErr, IfSome, OnOk, length, drop, slice_range, replicate};
 ghost use Rattle.std.specs.List.{All, prefix_len};
 ghost use Rattle.campl_lex.specs.Enclosure.{block_count, is_block_from};
-ghost use Rattle.campl_lex.specs.Layout.{text_of, is_block_word, is_opening_bracket, is_closing_bracket, IsWritten, inserted, Puts, onto, block_opened, bracket_closed, separated, aligned, closing, before, behind, ended, laid, laid_out, adds, Answers};
+ghost use Rattle.campl_lex.specs.Layout.{text_of, is_block_word, is_opening_bracket, is_closing_bracket, IsWritten, inserted, Puts, onto, block_opened, bracket_closed, separated, aligned, closing, before, behind, ended, laid, laid_out, adds, Answers, IsWhole};
 ghost use Rattle.campl_lex.specs.declared.token.TokenKind.TheVariants.{Open, Close, Separator};
 ghost use Rattle.campl_tree.specs.declared.place.Place.{Place};
 ghost use Rattle.campl_lex.specs.declared.stack.Enclosure.TheVariants.{Block};
@@ -59,8 +59,23 @@ fn word(text: &[u8], token: Token) -> &[u8]
 
 /// The tokens with what layout puts between them: `{`, `}` and `;` by the columns at which blocks and lines begin.
 ///
-/// `BadColumn` comes at the first token, or at the end, that the rules let stand in no such column.
+/// An inserted token has the place of the token before which it stands, or of the end. `BadColumn` comes at the first token, or at the
+/// end, that may not stand in its column; no other fault comes.
 pub fn layout(
+    alloc: Global,
+    text: &Text,
+    tokens: &[Token],
+    end: Place,
+) -> Result<Vec<Token>, LexFault>
+    requires { All (IsWritten text.now) tokens.now }
+    ensures laid { Answers (laid_out text.now end tokens.now) result }
+    ensures whole { IfOk result (λ laid. IsWhole laid.items) }
+    ensures short { IfOk result (λ laid. length laid.items ≤ 4 * length tokens.now + 2) }
+{
+    laid_out(alloc, text, tokens, end)
+}
+
+fn laid_out(
     alloc: Global,
     text: &Text,
     tokens: &[Token],

@@ -10,6 +10,8 @@ mod literal;
 mod piece;
 mod spot;
 mod stack;
+#[cfg(test)]
+mod tests;
 mod token;
 mod words;
 
