@@ -21,3 +21,5 @@ pub mod Whole
 pub mod Written
 pub mod Told
 pub mod Braces
+pub mod Slices
+pub mod Examples

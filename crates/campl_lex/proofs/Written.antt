@@ -49,11 +49,11 @@ column_past : (p : Place) (cs : List ℕ) → 0 < p.column → 0 < (place_past p
 column_past p [] h = h
 column_past p (c ∷ cs) h = column_past (after p c) cs (column_after p c h)
 
-all_more : (P : Token → Type 0) (t : Token) (ts : List Token) → P t → All P ts → All P (t ∷ ts)
+pub all_more : (P : Token → Type 0) (t : Token) (ts : List Token) → P t → All P ts → All P (t ∷ ts)
 all_more P t ts h k zero d l = h
 all_more P t ts h k (suc i) d l = k i d (omega arith)
 
-all_none : (P : Token → Type 0) → All P []
+pub all_none : (P : Token → Type 0) → All P []
 all_none P i d l = absurd (omega arith)
 
 joined : (source : List ℕ) (t : Token) (r : Result (List Token) LexFault) (ts : List Token) → IsWritten source t → adds (t ∷ []) r ≡ Ok ts

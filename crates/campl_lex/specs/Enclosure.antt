@@ -1,9 +1,10 @@
--- Open blocks and brackets.
+-- Open blocks and brackets, the last opened first.
 use Rattle.std.specs.Prelude.{ℕ, suc, Bool, true, false, List, [], ◌∷◌, nat_lt, nat_le, Option, Some, None}
 use Rattle.std.specs.List.{count_by}
 use Rattle.campl_lex.specs.declared.stack.Enclosure.{Enclosure}
 use Rattle.campl_lex.specs.declared.stack.Enclosure.TheVariants.{Block, Bracket}
 
+-- a bracket
 abbrev pub is_bracket : Enclosure → Bool
 is_bracket (Block c) = false
 is_bracket (Bracket c) = true
@@ -13,6 +14,7 @@ abbrev pub is_block_from : ℕ → Enclosure → Bool
 is_block_from c (Block d) = nat_le c d
 is_block_from c (Bracket d) = false
 
+-- some bracket is open
 abbrev pub has_bracket : List Enclosure → Bool
 has_bracket stack = nat_lt 0 (count_by is_bracket stack)
 
@@ -27,6 +29,7 @@ abbrev pub tops : (Enclosure → Bool) → Option Enclosure → Bool
 tops p None = false
 tops p (Some e) = p e
 
+-- how many blocks are open
 abbrev pub block_count : List Enclosure → ℕ
 block_count [] = 0
 block_count (Block c ∷ stack) = suc (block_count stack)

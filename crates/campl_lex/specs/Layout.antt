@@ -16,6 +16,7 @@ use Rattle.campl_lex.specs.Enclosure.{block_count, is_block_from, has_bracket, n
 abbrev pub text_of : List ℕ → Token → List ℕ
 text_of text t = slice_range text t.start t.stop
 
+-- the kinds that layout inserts
 abbrev pub is_inserted : TokenKind → Bool
 is_inserted Open = true
 is_inserted Close = true
@@ -26,6 +27,7 @@ is_inserted kind = false
 abbrev pub is_block_word : List ℕ → Bool
 is_block_word w = bytes_eq w (codes "where") || bytes_eq w (codes "of") || bytes_eq w (codes "do") || bytes_eq w (codes "as") || bytes_eq w (codes "race")
 
+-- the brackets that enclose lines
 abbrev pub is_opening_bracket : List ℕ → Bool
 is_opening_bracket w = bytes_eq w (codes "(") || bytes_eq w (codes "[")
 
@@ -106,6 +108,7 @@ abbrev pub adds : List Token → Result (List Token) LexFault → Result (List T
 adds front (Ok rest) = Ok (front ++ rest)
 adds front (Err fault) = Err fault
 
+-- the token before, if there is one, opens a block
 abbrev pub opens_last : List ℕ → Option Token → Bool
 opens_last text None = false
 opens_last text (Some t) = is_block_word (text_of text t)

@@ -7,16 +7,20 @@ use Rattle.unicode_ident.specs.Ident.{is_xid_start, is_xid_continue}
 use Rattle.campl_lex.specs.declared.token.TokenKind.{TokenKind}
 use Rattle.campl_lex.specs.declared.token.TokenKind.TheVariants.{Lower, Upper, Wildcard, Reserved, Number, Text, Character, Symbol}
 
+-- a name may begin with the character
 abbrev pub begins_name : ℕ → Bool
 begins_name c = is_xid_start c || c == 95
 
+-- a name may go on with the character
 abbrev pub goes_on : ℕ → Bool
 goes_on c = is_xid_continue c || c == 39
 
+-- the characters are a name
 abbrev pub is_name : List ℕ → Bool
 is_name [] = false
 is_name (c ∷ cs) = begins_name c && list_all goes_on cs
 
+-- the characters are digits
 abbrev pub is_number : List ℕ → Bool
 is_number [] = false
 is_number (c ∷ cs) = is_ascii_digit c && list_all is_ascii_digit cs
@@ -44,6 +48,7 @@ is_double a b = list_any (bytes_eq (a ∷ b ∷ [])) doubles
 abbrev pub is_triple : ℕ → ℕ → ℕ → Bool
 is_triple a b c = list_any (bytes_eq (a ∷ b ∷ c ∷ [])) triples
 
+-- the characters are a symbol
 abbrev pub is_symbol : List ℕ → Bool
 is_symbol (a ∷ []) = is_single a
 is_symbol (a ∷ b ∷ []) = is_double a b

@@ -1,6 +1,8 @@
 -- The tokens of a text, as a relation between the whole text and a list of tokens or a first fault.
+-- A character is its code: 9 is Tab, 10 LF, 13 CR, 32 a space, 34 ", 39 ', 45 -.
 use Rattle.std.specs.Prelude.{◌≡◌, ◌≢◌, ℕ, ◌<◌, ◌≤◌, Bool, true, false, ◌==◌, not, ◌&&◌, ◌||◌, List, [], ◌∷◌, ◌++◌, length, Result, Ok, Err, MatchResult, Vec}
 use Rattle.std.specs.List.{list_all}
+use Rattle.std.specs.Str.{encode_utf8_all}
 use Rattle.campl_tree.specs.declared.place.Place.{Place}
 use Rattle.campl_lex.specs.declared.limits.TheConstants.{NAME_MAX, TEXT_MAX, NUMBER_MAX}
 use Rattle.campl_lex.specs.declared.token.Token.{Token}
@@ -10,8 +12,9 @@ use Rattle.campl_lex.specs.declared.fault.LexFault.TheVariants.{BadCharacter, Op
 use Rattle.campl_lex.specs.Spot.{place_past, past, first_spot}
 use Rattle.campl_lex.specs.Spelling.{is_name, is_number, number_of, is_symbol, kind_of}
 use Rattle.campl_lex.specs.Literal.{IsEscape, Spells}
-use Rattle.campl_lex.specs.Layout.{adds}
+use Rattle.campl_lex.specs.Layout.{adds, text_of}
 
+-- the character stands first
 abbrev pub begins_with : ℕ → List ℕ → Bool
 begins_with c [] = false
 begins_with c (x ∷ xs) = x == c
@@ -25,6 +28,7 @@ abbrev pub begins_comment : List ℕ → Bool
 begins_comment [] = false
 begins_comment (c ∷ cs) = c == 45 && begins_with 45 cs
 
+-- the line ends before these characters
 abbrev pub ends_line : List ℕ → Bool
 ends_line [] = true
 ends_line (c ∷ cs) = c == 10
@@ -59,6 +63,7 @@ pub record IsToken (w rest : List ℕ) : Type 0 where
   pub no_comment : begins_comment (w ++ rest) ≡ false
   pub within : IsWithinLimits w
 
+-- the quotes of texts and of characters
 abbrev pub is_quote : ℕ → Bool
 is_quote c = c == 34 || c == 39
 
@@ -83,6 +88,13 @@ pub data Offends (p : Place) : List ℕ → LexFault → Type 0 where
 -- the token that characters are at a spot
 abbrev pub token : Spot → List ℕ → Token
 token s w = record { kind = kind_of w; start = s.at; stop = (past s w).at; place = s.place }
+
+-- in the bytes of a source a token's text is a spelling, which tells its kind
+pub record IsSlice (source : List ℕ) (t : Token) : Type 0 where
+  pub letters : List ℕ
+  pub spelling : IsSpelling letters
+  pub bytes_are : text_of source t ≡ encode_utf8_all letters
+  pub kind_is : t.kind ≡ kind_of letters
 
 -- A text that begins at a spot has this list of tokens, or this first fault.
 pub data Lexes : Spot → List ℕ → Result (List Token) LexFault → Type 0 where

@@ -1,10 +1,11 @@
 //! Tokens of a text.
 ghost use Rattle.std.specs.Prelude.{◌≡◌, ◌≢◌, ℕ, List, Result, ◌+◌, ◌++◌, ◌<◌, ◌≤◌, ◌^◌, Ok, Err, IfOk, IfErr, OnOk, MatchResult, length, chars};
 ghost use Rattle.std.specs.List.{All};
+ghost use Rattle.std.specs.Str.{encode_utf8_all};
 ghost use Rattle.campl_lex.specs.Spot.{first_spot, first_place, place_past, bytes};
 ghost use Rattle.campl_lex.specs.Reading.{lexed, tokens_of};
 ghost use Rattle.campl_lex.specs.Layout.{Answers, IsWritten};
-ghost use Rattle.campl_lex.specs.Tokens.{Lexes, Tells};
+ghost use Rattle.campl_lex.specs.Tokens.{Lexes, Tells, IsSlice};
 ghost use Rattle.campl_lex.specs.declared.token.Token.{Token};
 ghost use Rattle.campl_lex.specs.declared.fault.LexFault.{LexFault};
 ghost use Rattle.campl_lex.specs.declared.fault.LexFault.TheVariants.{OutOfMemory};
@@ -24,6 +25,7 @@ pub fn lex(alloc: Global, text: &Text) -> Result<Vec<Token>, LexFault>
     ensures tells { Tells (chars text.now) result }
     ensures finds { (wanted : Result (List Token) LexFault) → Lexes first_spot (chars text.now) wanted → Answers wanted result }
     ensures written { IfOk result (λ tokens. All (IsWritten text.now) tokens.items) }
+    ensures slices { IfOk result (λ tokens. All (IsSlice text.now) tokens.items) }
 {
     let letters = letters(alloc, text)?;
     tokens_of(alloc, &letters)
@@ -39,6 +41,7 @@ fn letters(alloc: Global, text: &Text) -> Result<Vec<char>, AllocError>
     ensures letters { IfOk result (λ v. v.items ≡ chars text.now) }
     ensures bytes { bytes (chars text.now) ≡ length text.now }
     ensures small { length text.now ≤ 4294967294 }
+    ensures encoded { encode_utf8_all (chars text.now) ≡ text.now }
 {
     text.as_str().chars().collect(alloc)
 }

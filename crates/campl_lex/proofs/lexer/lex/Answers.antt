@@ -1,9 +1,9 @@
-use Rattle.std.proofs.Common.{◌≡◌, ◌∙◌, ap, subst, arith}
+use Rattle.std.proofs.Common.{◌≡◌, ◌∙◌, ap, sym, subst, arith}
 use Rattle.std.specs.Str.{chars}
 use Rattle.campl_lex.specs.Spot.{bytes, first_spot}
 use Rattle.campl_lex.specs.Reading.{lexed}
 use Rattle.campl_lex.specs.Layout.{Answers}
-use Rattle.campl_lex.proofs.Told.{told, wanted_is, written}
+use Rattle.campl_lex.proofs.Told.{told, wanted_is, written, slices}
 use Rattle.campl_lex.proofs.lexer.lex.Goals as goal
 
 pub tokens_of-requires : goal.tokens_of-requires
@@ -20,4 +20,5 @@ returns c =
       tells = told letters c.tokens_of.result e;
       finds = λ wanted d. wanted_is letters c.tokens_of.result e wanted d;
       written = written c.args.text.now letters c.tokens_of.result (omega (arith, c.in_ok-letters.ensures.bytes)) e;
+      slices = slices c.args.text.now letters c.tokens_of.result (sym c.in_ok-letters.ensures.encoded) e;
     }
