@@ -35,5 +35,5 @@ whole_output console texts steps o p q utf8 e f g =
     let last : List ℕ = codes "finished after " ++ (decimal steps ++ (codes " steps" ++ end_of_line)) in
     let end : List ℕ = codes "closed" ++ (end_of_line ++ last) in
     let a : q ≡ codes "channel " ++ (console ++ (end_of_line ++ (lines ++ end))) =
-        g ∙ (ap (λ x. x ++ end) (f ∙ ap (λ x. x ++ lines) e) ∙ simp append_assoc) in
+    g ∙ (ap (λ x. x ++ end) (f ∙ ap (λ x. x ++ lines) e) ∙ simp append_assoc) in
     rw (spelled-chars console utf8, flat_map-append record_line (map Took texts) (WasClosed ∷ [])) (a ∙ sym (glued (codes "channel ") console end_of_line lines (codes "closed") last))

@@ -19,7 +19,7 @@ use Rattle.campl_meaning.specs.Kinds as k
 use Rattle.campl_meaning.specs.Journals.{Entry, Naming, naming_at_start, IsRunOf, IsRunFromStart, Says, Times, IsWeighed, steps_of}
 use Rattle.campl_cli.specs.Form.{Prints, IsText, IsFine}
 use Rattle.campl_cli.proofs.Depths.{text_fits}
-use Rattle.campl_cli.specs.Printing.{printing, source_of, sends, takes, serves, journal_of, sent_pick, sent_text, took_pick, took_text, halted}
+use Rattle.campl_cli.specs.Printing.{printing, source_of, sends, takes, serves, journal_of, sent_pick, sent_word, took_pick, took_word, halted}
 
 -- a number, and a name, is the same as itself
 eqb-refl : (n : ℕ) → eqb n n ≡ true
@@ -70,9 +70,9 @@ sent-at : (r t : State) (s : Serving) (owed : List Message) (m : Message) →
     moved (at (Some r) s owed) (Process []) (record { send = Some (near 0, m); channels = []; children = []; next = Some t }) ≡ at (Some t) s (owed ++ (m ∷ []))
 sent-at r t s owed m =
     let a : ◌≡◌ {A = Who → Option State} (update same_who ((Process [], Some t) ∷ []) (at (Some r) s owed).nodes) (at (Some t) s (owed ++ (m ∷ []))).nodes
-          = fun_ext (λ w. shadowed (same_who (Process []) w) _ _ _) in
+    = fun_ext (λ w. shadowed (same_who (Process []) w) _ _ _) in
     let o : ◌≡◌ {A = End → List Message} (sent (Some (near 0, m)) (at (Some r) s owed).owed) (at (Some t) s (owed ++ (m ∷ []))).owed
-          = fun_ext (λ e. one_more (same_end (near 0) e) owed m) in
+    = fun_ext (λ e. one_more (same_end (near 0) e) owed m) in
     λ i. record { nodes = a i; partner = (at (Some t) s (owed ++ (m ∷ []))).partner; owed = o i }
 
 -- `run` is gone
@@ -80,7 +80,7 @@ gone-at : (r : State) (s : Serving) (owed : List Message) →
     moved (at (Some r) s owed) (Process []) (record { send = None; channels = []; children = []; next = None }) ≡ at None s owed
 gone-at r s owed =
     let a : ◌≡◌ {A = Who → Option State} (update same_who ((Process [], None) ∷ []) (at (Some r) s owed).nodes) (at None s owed).nodes
-          = fun_ext (λ w. shadowed (same_who (Process []) w) _ _ _) in
+    = fun_ext (λ w. shadowed (same_who (Process []) w) _ _ _) in
     λ i. record { nodes = a i; partner = (at None s owed).partner; owed = (at None s owed).owed }
 
 service_shadows : (r : Option State) (s t : Serving) (owed : List Message) (w : Who) →
@@ -92,9 +92,9 @@ service_shadows r s t owed (Service n) = shadowed (eqb 0 n) _ _ _
 taken-at : (r : Option State) (s t : Serving) (owed : List Message) (m : Message) → looked (at r s (m ∷ owed)) (Service 0) true (near 0) (Serves t) ≡ at r t owed
 taken-at r s t owed m =
     let a : ◌≡◌ {A = Who → Option State} (update same_who ((Service 0, Some (Serves t)) ∷ []) (at r s (m ∷ owed)).nodes) (at r t owed).nodes
-          = fun_ext (λ w. service_shadows r s t (m ∷ owed) w) in
+    = fun_ext (λ w. service_shadows r s t (m ∷ owed) w) in
     let o : ◌≡◌ {A = End → List Message} (taken true (near 0) (at r s (m ∷ owed)).owed) (at r t owed).owed
-          = fun_ext (λ e. one_less (same_end (near 0) e) owed m) in
+    = fun_ext (λ e. one_less (same_end (near 0) e) owed m) in
     λ i. record { nodes = a i; partner = (at r t owed).partner; owed = o i }
 
 -- something happened at an end, with a message or without
@@ -103,14 +103,14 @@ at_end kind end message = record { kind = kind; end = Some end; second = None; m
 
 picks-reduces : (name : Name) (c : Name) (number : ℕ) (rest : Body) (n : ℕ) (s : Serving) (owed : List Message) → constructor_number c ≡ Some number →
     Reduces (at (Some (running name (Then (HPut c name) rest) n)) s owed) (Process []) (at_end k.Pick (near 0) (Some (Pick number)))
-        (at (Some (running name rest (suc n))) s (owed ++ (Pick number ∷ [])))
+    (at (Some (running name rest (suc n))) s (owed ++ (Pick number ∷ [])))
 picks-reduces name c number rest n s owed h =
     (0, rw (same_name-refl name, h) (ap (λ d. Some (at_end k.Pick (near 0) (Some (Pick number)), d)) (sent-at (running name (Then (HPut c name) rest) n) (running name rest (suc n)) s owed (Pick number))))
 
 -- a text that isn't too long is put
 puts-reduces : (name : Name) (text : List ℕ) (rest : Body) (n : ℕ) (s : Serving) (owed : List Message) → nat_le (depth_of (text_of text)) MAX_DEPTH ≡ true →
     Reduces (at (Some (running name (Then (Put (Text text) name) rest) n)) s owed) (Process []) (at_end k.Put (near 0) (Some (Word (text_of text))))
-        (at (Some (running name rest (suc n))) s (owed ++ (Word (text_of text) ∷ [])))
+    (at (Some (running name rest (suc n))) s (owed ++ (Word (text_of text) ∷ [])))
 puts-reduces name text rest n s owed h =
     (0, rw (same_name-refl name, h) (ap (λ d. Some (at_end k.Put (near 0) (Some (Word (text_of text))), d)) (sent-at (running name (Then (Put (Text text) name) rest) n) (running name rest (suc n)) s owed (Word (text_of text)))))
 
@@ -161,7 +161,7 @@ module _ (name : Name) (body : Body) where
   says_pick : (constructor : ℕ) → Says (naming name body) (sent_pick constructor) (Process []) (at_end k.Pick (near 0) (Some (Pick constructor))) (naming name body)
   says_pick constructor = record { kind = refl; process = refl; between = naming name body; child = refl; channels = refl; end = refl; second = tt; message = refl }
 
-  says_text : (text : List ℕ) → Says (naming name body) (sent_text text) (Process []) (at_end k.Put (near 0) (Some (Word (text_of text)))) (naming name body)
+  says_text : (text : List ℕ) → Says (naming name body) (sent_word (text_of text)) (Process []) (at_end k.Put (near 0) (Some (Word (text_of text)))) (naming name body)
   says_text text = record { kind = refl; process = refl; between = naming name body; child = refl; channels = refl; end = refl; second = tt; message = refl }
 
   says_halted : Says (naming name body) halted (Process []) (at_end k.Halt (near 0) None) (naming name body)
@@ -170,8 +170,8 @@ module _ (name : Name) (body : Body) where
   says_took_pick : (constructor : ℕ) → Says (naming name body) (took_pick constructor) (Service 0) (at_end k.ServePick (far 0) (Some (Pick constructor))) (naming name body)
   says_took_pick constructor = record { kind = refl; process = refl; between = naming name body; child = refl; channels = refl; end = refl; second = tt; message = refl }
 
-  says_took_text : (text : List ℕ) → Says (naming name body) (took_text text) (Service 0) (at_end k.ServeText (far 0) (Some (Word (text_of text)))) (naming name body)
-  says_took_text text = record { kind = refl; process = refl; between = naming name body; child = refl; channels = refl; end = refl; second = tt; message = refl }
+  says_took_word : (text : List ℕ) → Says (naming name body) (took_word (text_of text)) (Service 0) (at_end k.ServeText (far 0) (Some (Word (text_of text)))) (naming name body)
+  says_took_word text = record { kind = refl; process = refl; between = naming name body; child = refl; channels = refl; end = refl; second = tt; message = refl }
 
   -- the entries lead from one configuration to the other
   abbrev Leads : Configuration → List Entry → Configuration → Type 0
@@ -185,38 +185,38 @@ module _ (name : Name) (body : Body) where
       Leads (doing rest (suc n) s (owed ++ (Pick number ∷ []))) entries d → Leads (doing (Then (HPut c name) rest) n s owed) (sent_pick number ∷ entries) d
   pick_first c number rest n s owed entries d h run =
       goes_before (sent_pick number) (Process []) (at_end k.Pick (near 0) (Some (Pick number))) (doing (Then (HPut c name) rest) n s owed) (doing rest (suc n) s (owed ++ (Pick number ∷ []))) d entries
-          refl (says_pick number) (picks-reduces name c number rest n s owed h) run
+      refl (says_pick number) (picks-reduces name c number rest n s owed h) run
 
   text_first : (text : List ℕ) (rest : Body) (n : ℕ) (s : Serving) (owed : List Message) (entries : List Entry) (d : Configuration) → nat_le (depth_of (text_of text)) MAX_DEPTH ≡ true →
-      Leads (doing rest (suc n) s (owed ++ (Word (text_of text) ∷ []))) entries d → Leads (doing (Then (Put (Text text) name) rest) n s owed) (sent_text text ∷ entries) d
+      Leads (doing rest (suc n) s (owed ++ (Word (text_of text) ∷ []))) entries d → Leads (doing (Then (Put (Text text) name) rest) n s owed) (sent_word (text_of text) ∷ entries) d
   text_first text rest n s owed entries d h run =
-      goes_before (sent_text text) (Process []) (at_end k.Put (near 0) (Some (Word (text_of text)))) (doing (Then (Put (Text text) name) rest) n s owed) (doing rest (suc n) s (owed ++ (Word (text_of text) ∷ []))) d entries
-          refl (says_text text) (puts-reduces name text rest n s owed h) run
+      goes_before (sent_word (text_of text)) (Process []) (at_end k.Put (near 0) (Some (Word (text_of text)))) (doing (Then (Put (Text text) name) rest) n s owed) (doing rest (suc n) s (owed ++ (Word (text_of text) ∷ []))) d entries
+      refl (says_text text) (puts-reduces name text rest n s owed h) run
 
   halt_first : (n : ℕ) (s : Serving) (owed : List Message) (entries : List Entry) (d : Configuration) →
       Leads (at None s owed) entries d → Leads (doing (Ends (Halt (Some name))) n s owed) (halted ∷ entries) d
   halt_first n s owed entries d run =
       goes_before halted (Process []) (at_end k.Halt (near 0) None) (doing (Ends (Halt (Some name))) n s owed) (at None s owed) d entries
-          refl says_halted (halts-reduces name n s owed) run
+      refl says_halted (halts-reduces name n s owed) run
 
   pick_taken_first : (transcript : Transcript) (owed : List Message) (entries : List Entry) (d : Configuration) →
       Leads (at None (console_in AwaitsText transcript) owed) entries d → Leads (at None (console_in AwaitsPick transcript) (Pick 0 ∷ owed)) (took_pick 0 ∷ entries) d
   pick_taken_first transcript owed entries d run =
       goes_before (took_pick 0) (Service 0) (at_end k.ServePick (far 0) (Some (Pick 0))) (at None (console_in AwaitsPick transcript) (Pick 0 ∷ owed)) (at None (console_in AwaitsText transcript) owed) d entries
-          refl (says_took_pick 0) (pick_taken-reduces None transcript owed) run
+      refl (says_took_pick 0) (pick_taken-reduces None transcript owed) run
 
   text_taken_first : (transcript : Transcript) (text : List ℕ) (owed : List Message) (entries : List Entry) (d : Configuration) →
-      Leads (at None (console_in AwaitsPick (transcript ++ (Took text ∷ []))) owed) entries d → Leads (at None (console_in AwaitsText transcript) (Word (text_of text) ∷ owed)) (took_text text ∷ entries) d
+      Leads (at None (console_in AwaitsPick (transcript ++ (Took text ∷ []))) owed) entries d → Leads (at None (console_in AwaitsText transcript) (Word (text_of text) ∷ owed)) (took_word (text_of text) ∷ entries) d
   text_taken_first transcript text owed entries d run =
-      goes_before (took_text text) (Service 0) (at_end k.ServeText (far 0) (Some (Word (text_of text)))) (at None (console_in AwaitsText transcript) (Word (text_of text) ∷ owed)) (at None (console_in AwaitsPick (transcript ++ (Took text ∷ []))) owed) d entries
-          refl (says_took_text text) (text_taken-reduces None transcript text owed) run
+      goes_before (took_word (text_of text)) (Service 0) (at_end k.ServeText (far 0) (Some (Word (text_of text)))) (at None (console_in AwaitsText transcript) (Word (text_of text) ∷ owed)) (at None (console_in AwaitsPick (transcript ++ (Took text ∷ []))) owed) d entries
+      refl (says_took_word text) (text_taken-reduces None transcript text owed) run
 
   close_taken : (transcript : Transcript) → Leads (at None (console_in AwaitsPick transcript) (Pick 2 ∷ [])) (took_pick 2 ∷ []) (at None (console_in Closed (transcript ++ (WasClosed ∷ []))) [])
   close_taken transcript =
       let d : Configuration = at None (console_in Closed (transcript ++ (WasClosed ∷ []))) [] in
       let over : Leads d [] d = (refl, refl) in
       goes_before (took_pick 2) (Service 0) (at_end k.ServePick (far 0) (Some (Pick 2))) (at None (console_in AwaitsPick transcript) (Pick 2 ∷ [])) d d []
-          refl (says_took_pick 2) (close_taken-reduces None transcript []) over
+      refl (says_took_pick 2) (close_taken-reduces None transcript []) over
 
   -- the messages that the process sends for its texts
   abbrev messages : List (List ℕ) → List Message
@@ -230,25 +230,25 @@ module _ (name : Name) (body : Body) where
 
   -- where the close and what follows it are a run, the prints and that are a run
   sends-run : (texts : List (List ℕ)) (n : ℕ) (s : Serving) (owed : List Message) (tail : List Entry) (d : Configuration) → AllFit texts →
-      ((k : ℕ) → Leads (doing (printing name []) k s (owed ++ messages texts)) tail d) → Leads (doing (printing name texts) n s owed) (sends texts ++ tail) d
+      ((k : ℕ) → Leads (doing (printing name []) k s (owed ++ messages texts)) tail d) → Leads (doing (printing name texts) n s owed) (sends (map text_of texts) ++ tail) d
   sends-run [] n s owed tail d fit run = subst (λ o. Leads (doing (printing name []) n s o) tail d) (append-nil owed) (run n)
   sends-run (text ∷ texts) n s owed tail d fit run =
-      pick_first (codes "ConsolePut") 0 (Then (Put (Text text) name) (printing name texts)) n s owed (sent_text text ∷ (sends texts ++ tail)) d refl
-      (text_first text (printing name texts) (suc n) s (owed ++ (Pick 0 ∷ [])) (sends texts ++ tail) d fit.0
+      pick_first (codes "ConsolePut") 0 (Then (Put (Text text) name) (printing name texts)) n s owed (sent_word (text_of text) ∷ (sends (map text_of texts) ++ tail)) d refl
+      (text_first text (printing name texts) (suc n) s (owed ++ (Pick 0 ∷ [])) (sends (map text_of texts) ++ tail) d fit.0
       (sends-run texts (suc (suc n)) s ((owed ++ (Pick 0 ∷ [])) ++ (Word (text_of text) ∷ [])) tail d fit.1
       (λ k. subst (λ o. Leads (doing (printing name []) k s o) tail d) (two_more owed (Pick 0) (Word (text_of text)) (messages texts)) (run k))))
 
   -- the service takes what was sent, and ends closed
   serves-run : (texts : List (List ℕ)) (transcript : Transcript) →
-      Leads (at None (console_in AwaitsPick transcript) (messages texts ++ (Pick 2 ∷ []))) (serves texts) (at None (console_in Closed ((transcript ++ map Took texts) ++ (WasClosed ∷ []))) [])
+      Leads (at None (console_in AwaitsPick transcript) (messages texts ++ (Pick 2 ∷ []))) (serves (map text_of texts)) (at None (console_in Closed ((transcript ++ map Took texts) ++ (WasClosed ∷ []))) [])
   serves-run [] transcript =
       subst (λ t. Leads (at None (console_in AwaitsPick transcript) (Pick 2 ∷ [])) (serves []) (at None (console_in Closed (t ++ (WasClosed ∷ []))) [])) (sym (append-nil transcript)) (close_taken transcript)
   serves-run (text ∷ texts) transcript =
       let end : Transcript → Configuration = λ t. at None (console_in Closed (t ++ (WasClosed ∷ []))) [] in
-      pick_taken_first transcript (Word (text_of text) ∷ (messages texts ++ (Pick 2 ∷ []))) (took_text text ∷ serves texts) (end (transcript ++ map Took (text ∷ texts)))
-      (text_taken_first transcript text (messages texts ++ (Pick 2 ∷ [])) (serves texts) (end (transcript ++ map Took (text ∷ texts)))
-      (subst (λ t. Leads (at None (console_in AwaitsPick (transcript ++ (Took text ∷ []))) (messages texts ++ (Pick 2 ∷ []))) (serves texts) (end t))
-          (append_assoc transcript (Took text ∷ []) (map Took texts)) (serves-run texts (transcript ++ (Took text ∷ [])))))
+      pick_taken_first transcript (Word (text_of text) ∷ (messages texts ++ (Pick 2 ∷ []))) (took_word (text_of text) ∷ serves (map text_of texts)) (end (transcript ++ map Took (text ∷ texts)))
+      (text_taken_first transcript text (messages texts ++ (Pick 2 ∷ [])) (serves (map text_of texts)) (end (transcript ++ map Took (text ∷ texts)))
+      (subst (λ t. Leads (at None (console_in AwaitsPick (transcript ++ (Took text ∷ []))) (messages texts ++ (Pick 2 ∷ []))) (serves (map text_of texts)) (end t))
+      (append_assoc transcript (Took text ∷ []) (map Took texts)) (serves-run texts (transcript ++ (Took text ∷ [])))))
 
   -- what is left in the end: nothing of the process, and the service closed with the texts written down
   abbrev at_last : List (List ℕ) → Configuration
@@ -257,9 +257,9 @@ module _ (name : Name) (body : Body) where
   -- the whole run
   whole-run : (texts : List (List ℕ)) → AllFit texts → Leads (doing (printing name texts) 0 (console_in AwaitsPick []) []) (journal_of texts) (at_last texts)
   whole-run texts fit =
-      sends-run texts 0 (console_in AwaitsPick []) [] (sent_pick 2 ∷ (halted ∷ serves texts)) (at_last texts) fit
-      (λ k. pick_first (codes "ConsoleClose") 2 (Ends (Halt (Some name))) k (console_in AwaitsPick []) (messages texts) (halted ∷ serves texts) (at_last texts) refl
-      (halt_first (suc k) (console_in AwaitsPick []) (messages texts ++ (Pick 2 ∷ [])) (serves texts) (at_last texts) (serves-run texts [])))
+      sends-run texts 0 (console_in AwaitsPick []) [] (sent_pick 2 ∷ (halted ∷ serves (map text_of texts))) (at_last texts) fit
+      (λ k. pick_first (codes "ConsoleClose") 2 (Ends (Halt (Some name))) k (console_in AwaitsPick []) (messages texts) (halted ∷ serves (map text_of texts)) (at_last texts) refl
+      (halt_first (suc k) (console_in AwaitsPick []) (messages texts ++ (Pick 2 ∷ [])) (serves (map text_of texts)) (at_last texts) (serves-run texts [])))
 
   -- in the end nothing more may happen
   none_enabled : (texts : List (List ℕ)) → IsEnabled (at_last texts) → ⊥
@@ -302,7 +302,7 @@ printing-runs p entries fine same =
     let body : Body = printing name texts in
     let fit : AllFit name body texts = fits name body p.texts (recursion_from_All IsText p.texts fine.texts) in
     let run : IsRunOf (naming name body) (start (source_of p) []) (journal_of texts) (naming name body) (at_last name body texts) =
-        subst (λ c. IsRunOf (naming name body) c (journal_of texts) (naming name body) (at_last name body texts)) (sym (start-at name body texts)) (whole-run name body texts fit) in
+    subst (λ c. IsRunOf (naming name body) c (journal_of texts) (naming name body) (at_last name body texts)) (sym (start-at name body texts)) (whole-run name body texts fit) in
     record {
       last = at_last name body texts;
       run = (naming name body, subst (λ es. IsRunOf (naming name body) (start (source_of p) []) es (naming name body) (at_last name body texts)) (sym same) run);

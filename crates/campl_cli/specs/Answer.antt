@@ -3,7 +3,7 @@ use Rattle.std.specs.Prelude.{◌≡◌, ◌≢◌, ℕ, ◌⊎◌, List, [], �
 use Rattle.std.specs.Io.KnownBytes.{Appends}
 use Rattle.campl_text.specs.Counts.{Rose}
 use Rattle.campl_meaning.specs.Reductions.{Configuration}
-use Rattle.campl_meaning.specs.Ends.{IsEnd, transcript_of} 
+use Rattle.campl_meaning.specs.Ends.{IsEnd, transcript_of}
 use Rattle.campl_meaning.specs.Ends as e
 use Rattle.campl_meaning.specs.Journals.{IsRunFromStart}
 use Rattle.campl_meaning.specs.Output.{output_of}
@@ -22,6 +22,10 @@ pub record Stream : Type 0 where
   pub after : Option (List ℕ)
   pub faults_before : ℕ
   pub faults_after : ℕ
+
+-- a stream of whatever type, by what contracts see of it
+abbrev pub stream : {S : Type 0} → (written : S → Option (List ℕ)) → (faults : S → ℕ) → (old new : S) → Stream
+stream written faults old new = record { before = written old; after = written new; faults_before = faults old; faults_after = faults new }
 
 -- it has had nothing in this call
 abbrev pub HadNothing : Stream → Type 0

@@ -44,7 +44,7 @@ spelled p bar column = heading ∷ row p.console bar ∷ commands p.texts p.cons
 -- the words that are no names
 abbrev pub reserved : List (List ℕ)
 reserved =
-    codes "data" ∷ codes "protocol" ∷ codes "coprotocol" ∷ codes "fun" ∷ codes "proc" ∷ codes "where" ∷ codes "of" ∷ codes "do"
+    codes "data" ∷ codes "protocol" ∷ codes "coprotocol" ∷ codes "fun" ∷ codes "proc" ∷ codes "where" ∷ codes "of" ∷ codes "do" ∷ codes "as"
     ∷ codes "race" ∷ codes "plug" ∷ codes "put" ∷ codes "get" ∷ codes "hput" ∷ codes "hcase" ∷ codes "split" ∷ codes "into" ∷ codes "fork"
     ∷ codes "close" ∷ codes "halt" ∷ codes "on" ∷ codes "neg" ∷ codes "case" ∷ codes "if" ∷ codes "then" ∷ codes "else" ∷ codes "div"
     ∷ codes "mod" ∷ codes "code" ∷ codes "char" ∷ codes "Int" ∷ codes "Char" ∷ codes "Bool" ∷ codes "True" ∷ codes "False" ∷ codes "Put"

@@ -1,5 +1,6 @@
 -- The source that is of the form, and the journal of its run.
 use Rattle.std.specs.Prelude.{ℕ, List, [], ◌∷◌, ◌++◌, Option, Some, None, map, codes, chars}
+use Rattle.campl_value.specs.Tree.{Tree}
 use Rattle.campl_value.specs.Text.{text_of}
 use Rattle.campl_meaning.specs.Commands.{Name, Source, Body, Then, Ends, Put, HPut, Halt, Text, Console}
 use Rattle.campl_meaning.specs.Kinds as k
@@ -32,8 +33,8 @@ entry process kind end message = record { process = process; kind = kind; weight
 abbrev pub sent_pick : ℕ → Entry
 sent_pick constructor = entry 0 k.Pick run_end (Some (ToldPick constructor))
 
-abbrev pub sent_text : List ℕ → Entry
-sent_text text = entry 0 k.Put run_end (Some (ToldWord (text_of text)))
+abbrev pub sent_word : Tree → Entry
+sent_word word = entry 0 k.Put run_end (Some (ToldWord word))
 
 abbrev pub halted : Entry
 halted = entry 0 k.Halt run_end None
@@ -41,23 +42,23 @@ halted = entry 0 k.Halt run_end None
 abbrev pub took_pick : ℕ → Entry
 took_pick constructor = entry 1 k.ServePick service_end (Some (ToldPick constructor))
 
-abbrev pub took_text : List ℕ → Entry
-took_text text = entry 1 k.ServeText service_end (Some (ToldWord (text_of text)))
+abbrev pub took_word : Tree → Entry
+took_word word = entry 1 k.ServeText service_end (Some (ToldWord word))
 
--- the process sends two messages for each text
-abbrev pub sends : List (List ℕ) → List Entry
+-- the process sends two messages for each word
+abbrev pub sends : List Tree → List Entry
 sends [] = []
-sends (text ∷ texts) = sent_pick 0 ∷ (sent_text text ∷ sends texts)
+sends (word ∷ words) = sent_pick 0 ∷ (sent_word word ∷ sends words)
 
 -- and the service takes them
-abbrev pub takes : List (List ℕ) → List Entry
+abbrev pub takes : List Tree → List Entry
 takes [] = []
-takes (text ∷ texts) = took_pick 0 ∷ (took_text text ∷ takes texts)
+takes (word ∷ words) = took_pick 0 ∷ (took_word word ∷ takes words)
 
 -- what the service does
-abbrev pub serves : List (List ℕ) → List Entry
-serves texts = takes texts ++ (took_pick 2 ∷ [])
+abbrev pub serves : List Tree → List Entry
+serves words = takes words ++ (took_pick 2 ∷ [])
 
 -- the process makes all its actions, and then the service does: the run of one process at a time
 abbrev pub journal_of : List (List ℕ) → List Entry
-journal_of texts = sends texts ++ (sent_pick 2 ∷ (halted ∷ serves texts))
+journal_of texts = let words = map text_of texts in sends words ++ (sent_pick 2 ∷ (halted ∷ serves words))

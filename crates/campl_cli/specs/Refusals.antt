@@ -44,6 +44,10 @@ pub record Files : Type 0 where
   pub before : List ℕ → ℕ
   pub after : List ℕ → ℕ
 
+-- a shelf of whatever type, by what contracts see of it
+abbrev pub files : {S : Type 0} → (holds : S → List ℕ → Option (List ℕ)) → (faults : S → List ℕ → ℕ) → (old new : S) → Files
+files holds faults old new = record { held = holds old; before = faults old; after = faults new }
+
 -- the contents are within the limit and UTF-8, and their text is this
 abbrev pub IsText : List ℕ → List ℕ → Type 0
 IsText contents text = IsReading contents source_limit (Ok text)

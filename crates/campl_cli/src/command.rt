@@ -1,16 +1,16 @@
 //! The command: words, reading the source, the run, and the writing.
 ghost use Rattle.std.specs.Prelude.{MatchResult, IfErr, IfOk, map, string_bytes};
-ghost use Rattle.campl_cli.specs.Answer.{IsAnswer};
+ghost use Rattle.campl_cli.specs.Answer.{stream, IsAnswer};
 ghost use Rattle.campl_cli.specs.Form.{Prints, prints_of};
 ghost use Rattle.campl_cli.specs.Performance.{IsPerformance};
-ghost use Rattle.campl_cli.specs.Refusals.{IsSource, IsRefusedSource, IsAccepted, IsDue};
+ghost use Rattle.campl_cli.specs.Refusals.{files, IsSource, IsRefusedSource, IsAccepted, IsDue};
 
 use crate::gate::Gate;
 use crate::performance::{Performance, perform, print};
 use crate::reader::{Printer, read_printer};
 use crate::refusal::{Refusal, SOURCE_LIMIT};
-use crate::refuse::refuse;
 use crate::report::Report;
+use crate::telling::refuse;
 use crate::words::file_of;
 use campl_text::{Shelf, Sink, TextFault, read_text};
 use std::alloc::Global;
@@ -30,9 +30,9 @@ pub fn campl<R: Threads + Sync, F: Shelf, O: Sink, E: Sink, G: Gate>(
     gate: &G,
 ) -> Report
     ensures { IsAnswer (map string_bytes words.now)
-        (record { held = F.holds shelf.old; before = F.faults shelf.old; after = F.faults shelf.new })
-        (record { before = O.written out.old; after = O.written out.new; faults_before = O.faults out.old; faults_after = O.faults out.new })
-        (record { before = E.written err.old; after = E.written err.new; faults_before = E.faults err.old; faults_after = E.faults err.new })
+        (files F.holds F.faults shelf.old shelf.new)
+        (stream O.written O.faults out.old out.new)
+        (stream E.written E.faults err.old err.new)
         result }
 {
     let _ = rt;
@@ -44,10 +44,14 @@ pub fn campl<R: Threads + Sync, F: Shelf, O: Sink, E: Sink, G: Gate>(
 }
 
 // Runs the source of the file that the words name.
-fn perform_words<F: Shelf>(alloc: Global, words: &[String], shelf: &mut F) -> Result<Performance, Refusal>
+fn perform_words<F: Shelf>(
+    alloc: Global,
+    words: &[String],
+    shelf: &mut F,
+) -> Result<Performance, Refusal>
     ensures { MatchResult result
-        (λ performance. (p : Prints) × IsAccepted (map string_bytes words.now) (record { held = F.holds shelf.old; before = F.faults shelf.old; after = F.faults shelf.new }) p × IsPerformance p performance)
-        (IsDue (map string_bytes words.now) (record { held = F.holds shelf.old; before = F.faults shelf.old; after = F.faults shelf.new })) }
+        (λ performance. (p : Prints) × IsAccepted (map string_bytes words.now) (files F.holds F.faults shelf.old shelf.new) p × IsPerformance p performance)
+        (IsDue (map string_bytes words.now) (files F.holds F.faults shelf.old shelf.new)) }
 {
     match file_of(words) {
         Some(file) => perform_file(alloc, file, shelf),
@@ -58,8 +62,8 @@ fn perform_words<F: Shelf>(alloc: Global, words: &[String], shelf: &mut F) -> Re
 // Runs the source of a file.
 fn perform_file<F: Shelf>(alloc: Global, file: &str, shelf: &mut F) -> Result<Performance, Refusal>
     ensures { MatchResult result
-        (λ performance. (p : Prints) × IsSource (record { held = F.holds shelf.old; before = F.faults shelf.old; after = F.faults shelf.new }) file.now p × IsPerformance p performance)
-        (IsRefusedSource (record { held = F.holds shelf.old; before = F.faults shelf.old; after = F.faults shelf.new }) file.now) }
+        (λ performance. (p : Prints) × IsSource (files F.holds F.faults shelf.old shelf.new) file.now p × IsPerformance p performance)
+        (IsRefusedSource (files F.holds F.faults shelf.old shelf.new) file.now) }
 {
     let printer = read_source(alloc, file, shelf)?;
     match perform(alloc, &printer) {
@@ -71,8 +75,8 @@ fn perform_file<F: Shelf>(alloc: Global, file: &str, shelf: &mut F) -> Result<Pe
 // Reads the source of a file into its parts.
 fn read_source<F: Shelf>(alloc: Global, file: &str, shelf: &mut F) -> Result<Printer, Refusal>
     ensures { MatchResult result
-        (λ printer. IsSource (record { held = F.holds shelf.old; before = F.faults shelf.old; after = F.faults shelf.new }) file.now (prints_of printer))
-        (IsRefusedSource (record { held = F.holds shelf.old; before = F.faults shelf.old; after = F.faults shelf.new }) file.now) }
+        (λ printer. IsSource (files F.holds F.faults shelf.old shelf.new) file.now (prints_of printer))
+        (IsRefusedSource (files F.holds F.faults shelf.old shelf.new) file.now) }
 {
     match read_text(alloc, shelf, file, SOURCE_LIMIT) {
         Ok(text) => match read_printer(alloc, text.as_str()) {

@@ -7,15 +7,15 @@ mod output;
 mod performance;
 mod reader;
 mod refusal;
-mod refuse;
 mod report;
 mod runner;
+mod telling;
 mod words;
 
 pub use command::campl;
 pub use gate::{Gate, OpenGate};
 pub use reader::{Printer, read_printer};
 pub use refusal::{Refusal, SOURCE_LIMIT};
-pub use refuse::refuse;
 pub use report::{Ended, Report};
+pub use telling::refuse;
 pub use words::file_of;

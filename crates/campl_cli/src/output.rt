@@ -9,7 +9,12 @@ use std::alloc::{AllocError, Global};
 use std::fmt::Write;
 
 /// The lines of a finished run: its console's name, the texts that it took, that it was closed, and the number of steps.
-pub fn output(alloc: Global, console: &str, texts: &[String], steps: u64) -> Result<String, AllocError>
+pub fn output(
+    alloc: Global,
+    console: &str,
+    texts: &[String],
+    steps: u64,
+) -> Result<String, AllocError>
     ensures { IfOk result (λ output. string_bytes output ≡ output_of ((chars console.now, map Took (map chars (map string_bytes texts.now)) ++ WasClosed ∷ []) ∷ []) end.Finished [] steps) }
 {
     let mut output = heading(alloc, console)?;

@@ -1,16 +1,16 @@
 //! What a run did and prints, before any of it is written.
 ghost use Rattle.std.specs.Prelude.{◌≡◌, Some, IfOk};
 ghost use Rattle.campl_config.specs.Journal.{weight_of};
-ghost use Rattle.campl_cli.specs.Answer.{HadOrFailed};
+ghost use Rattle.campl_cli.specs.Answer.{stream, HadOrFailed};
 ghost use Rattle.campl_cli.specs.Form.{IsFine, prints_of};
 ghost use Rattle.campl_cli.specs.Performance.{IsPerformance, IsPrinted};
 ghost use Rattle.campl_cli.specs.Refusals.{write_fault_line};
 
 use crate::output::output;
 use crate::reader::Printer;
-use crate::refuse::WRITE_FAULT;
 use crate::report::{Ended, Report};
 use crate::runner::run;
+use crate::telling::WRITE_FAULT;
 use campl_config::Journal;
 use campl_text::{Sink, write_all_of};
 use std::alloc::{AllocError, Global};
@@ -39,8 +39,8 @@ pub fn perform(alloc: Global, printer: &Printer) -> Result<Performance, AllocErr
 /// Writes the output, and reports the run: with status 0, or 6 where the output couldn't be written.
 pub fn print<O: Sink, E: Sink>(performance: Performance, out: &mut O, err: &mut E) -> Report
     ensures { IsPrinted performance
-        (record { before = O.written out.old; after = O.written out.new; faults_before = O.faults out.old; faults_after = O.faults out.new })
-        (record { before = E.written err.old; after = E.written err.new; faults_before = E.faults err.old; faults_after = E.faults err.new })
+        (stream O.written O.faults out.old out.new)
+        (stream E.written E.faults err.old err.new)
         result }
 {
     let Performance { journal, output } = performance;
@@ -55,7 +55,7 @@ pub fn print<O: Sink, E: Sink>(performance: Performance, out: &mut O, err: &mut 
 
 // Writes the line of a failed write, as far as it can be written.
 fn tell_write_fault<E: Sink>(err: &mut E)
-    ensures { HadOrFailed (record { before = E.written err.old; after = E.written err.new; faults_before = E.faults err.old; faults_after = E.faults err.new }) write_fault_line }
+    ensures { HadOrFailed (stream E.written E.faults err.old err.new) write_fault_line }
 {
     match write_all_of(err, WRITE_FAULT_LINE.as_bytes()) {
         Ok(()) => (),

@@ -12,10 +12,12 @@ use std::alloc::{AllocError, Global};
 
 /// The numbers of the constructors of `Console`, by their lines.
 const CONSOLE_PUT: u32 = 0;
+
 const CONSOLE_CLOSE: u32 = 2;
 
 /// `run` is process 0 and its console's service is 1; of their channel `run` has end 0 and the service has end 1.
 const RUN: u32 = 0;
+
 const SERVICE: u32 = 1;
 
 /// Makes the whole run of a process that prints these texts on its console, closes it and halts: first all actions of the
@@ -25,56 +27,77 @@ pub fn run(alloc: Global, texts: &[String]) -> Result<Journal, AllocError>
     requires few { length texts.now ≤ 1000 }
     ensures { IfOk result (λ journal. plain_entries journal.entries ≡ journal_of (map chars (map string_bytes texts.now))) }
 {
+    let words = words_of(alloc, texts)?;
     let mut journal = Journal::new(alloc);
-    send_all(alloc, texts, &mut journal)?;
-    record(&mut journal, RUN, Kind::Pick, Some(Message::Pick(CONSOLE_CLOSE)))?;
+    send_all(words.as_slice(), &mut journal)?;
+    let close = Message::Pick(CONSOLE_CLOSE);
+    record(&mut journal, RUN, Kind::Pick, Some(close))?;
     record(&mut journal, RUN, Kind::Halt, None)?;
-    take_all(alloc, texts, &mut journal)?;
-    record(&mut journal, SERVICE, Kind::ServePick, Some(Message::Pick(CONSOLE_CLOSE)))?;
+    take_all(words.as_slice(), &mut journal)?;
+    let close = Message::Pick(CONSOLE_CLOSE);
+    record(&mut journal, SERVICE, Kind::ServePick, Some(close))?;
     Ok(journal)
 }
 
-// `run` puts each text.
-fn send_all(alloc: Global, texts: &[String], journal: &mut Journal) -> Result<(), AllocError>
-    requires plain { All (λ text. IsText (string_bytes text)) texts.now }
-    requires room { weight_of journal.old.entries + 2 * length texts.now < 2 ^ 32 }
-    ensures told { OnOk result (plain_entries journal.new.entries ≡ plain_entries journal.old.entries ++ sends (map chars (map string_bytes texts.now))) }
-    ensures weight { OnOk result (weight_of journal.new.entries ≡ weight_of journal.old.entries + 2 * length texts.now) }
+// The values that the texts are. Each is made once, and shared by what is sent and what is taken.
+fn words_of(alloc: Global, texts: &[String]) -> Result<Vec<Value>, AllocError>
+    requires { All (λ text. IsText (string_bytes text)) texts.now }
+    ensures { IfOk result (λ words. words.items ≡ map text_of (map chars (map string_bytes texts.now))) }
 {
+    let mut words = Vec::new(alloc);
     for text in texts {
-        record(journal, RUN, Kind::Pick, Some(Message::Pick(CONSOLE_PUT)))?;
-        record(journal, RUN, Kind::Put, Some(word(alloc, text.as_str())?))?;
+        words.push(word_of(alloc, text.as_str())?)?;
     }
-    Ok(())
+    Ok(words)
 }
 
-// The service takes each text.
-fn take_all(alloc: Global, texts: &[String], journal: &mut Journal) -> Result<(), AllocError>
-    requires plain { All (λ text. IsText (string_bytes text)) texts.now }
-    requires room { weight_of journal.old.entries + 2 * length texts.now < 2 ^ 32 }
-    ensures told { OnOk result (plain_entries journal.new.entries ≡ plain_entries journal.old.entries ++ takes (map chars (map string_bytes texts.now))) }
-    ensures weight { OnOk result (weight_of journal.new.entries ≡ weight_of journal.old.entries + 2 * length texts.now) }
-{
-    for text in texts {
-        record(journal, SERVICE, Kind::ServePick, Some(Message::Pick(CONSOLE_PUT)))?;
-        record(journal, SERVICE, Kind::ServeText, Some(word(alloc, text.as_str())?))?;
-    }
-    Ok(())
-}
-
-// A message that is a text.
-fn word(alloc: Global, text: &str) -> Result<Message, AllocError>
+// The value that a text is.
+fn word_of(alloc: Global, text: &str) -> Result<Value, AllocError>
     requires { length (chars text.now) ≤ 1024 }
-    ensures { IfOk result (λ message. message ≡ Message.Word (text_of (chars text.now))) }
+    ensures { IfOk result (λ word. word ≡ text_of (chars text.now)) }
 {
     match Value::text(alloc, text)? {
-        Made::Is(value) => Ok(Message::Word(value)),
+        Made::Is(word) => Ok(word),
         Made::TooDeep => unreachable!(),
     }
 }
 
+// `run` puts each word.
+fn send_all(words: &[Value], journal: &mut Journal) -> Result<(), AllocError>
+    requires { weight_of journal.old.entries + 2 * length words.now < 2 ^ 32 }
+    ensures told { OnOk result (plain_entries journal.new.entries ≡ plain_entries journal.old.entries ++ sends words.now) }
+    ensures weight { OnOk result (weight_of journal.new.entries ≡ weight_of journal.old.entries + 2 * length words.now) }
+{
+    for word in words {
+        let put = Message::Pick(CONSOLE_PUT);
+        record(journal, RUN, Kind::Pick, Some(put))?;
+        record(journal, RUN, Kind::Put, Some(Message::Word(word.copy()?)))?;
+    }
+    Ok(())
+}
+
+// The service takes each word.
+fn take_all(words: &[Value], journal: &mut Journal) -> Result<(), AllocError>
+    requires { weight_of journal.old.entries + 2 * length words.now < 2 ^ 32 }
+    ensures told { OnOk result (plain_entries journal.new.entries ≡ plain_entries journal.old.entries ++ takes words.now) }
+    ensures weight { OnOk result (weight_of journal.new.entries ≡ weight_of journal.old.entries + 2 * length words.now) }
+{
+    for word in words {
+        let put = Message::Pick(CONSOLE_PUT);
+        let text = Message::Word(word.copy()?);
+        record(journal, SERVICE, Kind::ServePick, Some(put))?;
+        record(journal, SERVICE, Kind::ServeText, Some(text))?;
+    }
+    Ok(())
+}
+
 // One reduction at the console's channel goes into the journal.
-fn record(journal: &mut Journal, process: u32, kind: Kind, message: Option<Message>) -> Result<(), AllocError>
+fn record(
+    journal: &mut Journal,
+    process: u32,
+    kind: Kind,
+    message: Option<Message>,
+) -> Result<(), AllocError>
     requires { weight_of journal.old.entries + 1 < 2 ^ 64 }
     ensures told { OnOk result (plain_entries journal.new.entries ≡ plain_entries journal.old.entries ++ entry process (plain_kind kind) process (option_map told message) ∷ []) }
     ensures weight { OnOk result (weight_of journal.new.entries ≡ weight_of journal.old.entries + 1) }

@@ -82,3 +82,43 @@ impl Journal {
         self.weight
     }
 }
+
+#[cfg(test)]
+mod tests {
+    use super::*;
+    use crate::entry::Kind;
+    use campl_value::Message;
+    use std::test::Fail;
+
+    // An entry of this weight at end 0.
+    fn entry(kind: Kind, weight: u32, message: Option<Message>) -> Entry {
+        Entry {
+            process: 0,
+            kind,
+            weight,
+            end: Some(0),
+            second: None,
+            message,
+            child: None,
+            channel: None,
+            channel2: None,
+        }
+    }
+
+    #[test]
+    fn keeps_entries_in_order(rt: HostRuntime) -> Result<(), Fail> {
+        let mut journal = Journal::new(rt.alloc());
+        journal.make_room(2)?;
+        assert!(rt; journal.push(entry(Kind::Work, 40, None)).is_ok());
+        assert!(rt;
+            journal
+                .push(entry(Kind::Pick, 2, Some(Message::Pick(7))))
+                .is_ok()
+        );
+        assert_eq!(rt; journal.weight(), 42);
+        assert_eq!(rt; journal.entries().len(), 2);
+        assert_eq!(rt; journal.entries()[0].kind, Kind::Work);
+        assert!(rt; matches!(journal.entries()[1].message, Some(Message::Pick(7))));
+        Ok(())
+    }
+}

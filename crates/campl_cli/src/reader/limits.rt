@@ -15,7 +15,7 @@ const TEXT_LIMIT: usize = 1024;
 const PRINT_LIMIT: usize = 1000;
 
 // The words that are no names.
-static RESERVED: [&str; 38] = [
+static RESERVED: [&str; 39] = [
     "data",
     "protocol",
     "coprotocol",
@@ -24,6 +24,7 @@ static RESERVED: [&str; 38] = [
     "where",
     "of",
     "do",
+    "as",
     "race",
     "plug",
     "put",

@@ -1,11 +1,10 @@
-use Rattle.std.proofs.Common.{◌≡◌, ◌+◌, ◌*◌, ◌++◌, drop, map}
-use Rattle.std.specs.Prelude.{string_bytes, chars}
+use Rattle.std.proofs.Common.{◌≡◌, ◌+◌, ◌*◌, ◌++◌, drop}
 use Rattle.campl_config.specs.Journal.{plain_entries, weight_of}
 use Rattle.campl_cli.specs.Printing.{takes}
 use Rattle.campl_cli.proofs.runner.take_all.Given as goal
 
--- what is told so far and what is still to be told make the whole, and each text adds two steps
-abbrev pub invariant-loop-text : goal.invariant-loop-text
-invariant-loop-text l =
-    (plain_entries l.journal.entries ++ takes (map chars (map string_bytes (drop l.text-index l.texts))) ≡ plain_entries l.fn.journal.entries ++ takes (map chars (map string_bytes l.texts)))
-    × (weight_of l.journal.entries ≡ weight_of l.fn.journal.entries + 2 * l.text-index)
+-- what is told so far and what is still to be told make the whole, and each word adds two steps
+abbrev pub invariant-loop-word : goal.invariant-loop-word
+invariant-loop-word l =
+    (plain_entries l.journal.entries ++ takes (drop l.word-index l.words) ≡ plain_entries l.fn.journal.entries ++ takes l.words)
+    × (weight_of l.journal.entries ≡ weight_of l.fn.journal.entries + 2 * l.word-index)

@@ -23,5 +23,5 @@ returns-in-len2 c =
     let same : c.as_str-then-eq.result.now ≡ c.as_str-in-len2.result.now = c.as_str-then-eq.ensures.value ∙ sym c.as_str-in-len2.ensures.value in
     let name : IsName c.as_str-in-len2.result.now = subst IsName same (c.if-is_name.ensures.0 refl) in
     let words : map string_bytes c.args.words.now ≡ codes "run" ∷ (c.as_str-in-len2.result.now ∷ []) =
-        ap (map string_bytes) two ∙ ap₂ (λ a b. a ∷ (b ∷ [])) (sym c.as_str.ensures.value ∙ run) (sym c.as_str-in-len2.ensures.value) in
+    ap (map string_bytes) two ∙ ap₂ (λ a b. a ∷ (b ∷ [])) (sym c.as_str.ensures.value ∙ run) (sym c.as_str-in-len2.ensures.value) in
     (words, name.0, name.1)

@@ -1,7 +1,7 @@
 //! Tells a refusal on the stream of errors.
 ghost use Rattle.std.specs.Prelude.{◌≡◌, ◌≢◌, ◌⊎◌};
 ghost use Rattle.campl_cli.specs.Refusals.{line_of, status_of};
-ghost use Rattle.campl_cli.specs.Answer.{IsTold, IsRefused, HasNoRun};
+ghost use Rattle.campl_cli.specs.Answer.{stream, IsTold, IsRefused, HasNoRun};
 
 use crate::refusal::Refusal;
 use crate::report::Report;
@@ -15,7 +15,7 @@ pub const WRITE_FAULT: u8 = 6;
 /// Writes the refusal's line, and answers its status, or 6 where the line couldn't be written. Where there is no memory for the
 /// line, want of memory is told instead.
 pub fn refuse<E: Sink>(alloc: Global, refusal: Refusal, err: &mut E) -> Report
-    ensures { IsRefused refusal (record { before = E.written err.old; after = E.written err.new; faults_before = E.faults err.old; faults_after = E.faults err.new }) result }
+    ensures { IsRefused refusal (stream E.written E.faults err.old err.new) result }
 {
     let line = match refusal {
         Refusal::BadCommandLine => "campl: bad command line\n",
@@ -33,7 +33,7 @@ const OUT_OF_MEMORY_LINE: &str = "campl: out of memory\n";
 
 // The source isn't UTF-8 from this byte on.
 fn refuse_bytes<E: Sink>(alloc: Global, at: u64, err: &mut E) -> Report
-    ensures { IsRefused (Refusal.NotUtf8 at) (record { before = E.written err.old; after = E.written err.new; faults_before = E.faults err.old; faults_after = E.faults err.new }) result }
+    ensures { IsRefused (Refusal.NotUtf8 at) (stream E.written E.faults err.old err.new) result }
 {
     match format!(in alloc; "campl: source isn't UTF-8 at byte {at}\n") {
         Ok(line) => tell(alloc, Refusal::NotUtf8 { at }, line.as_str(), err),
@@ -44,7 +44,7 @@ fn refuse_bytes<E: Sink>(alloc: Global, at: u64, err: &mut E) -> Report
 // Writes the line, and answers that nothing ran.
 fn tell<E: Sink>(alloc: Global, refusal: Refusal, line: &str, err: &mut E) -> Report
     requires { line.now ≡ line_of refusal }
-    ensures { IsTold refusal (record { before = E.written err.old; after = E.written err.new; faults_before = E.faults err.old; faults_after = E.faults err.new }) result }
+    ensures { IsTold refusal (stream E.written E.faults err.old err.new) result }
 {
     match write_all_of(err, line.as_bytes()) {
         Ok(()) => nothing_ran(alloc, refusal.status()),

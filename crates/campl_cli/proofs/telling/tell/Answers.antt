@@ -1,7 +1,7 @@
 -- The line couldn't be written.
 use Rattle.std.proofs.Common.{◌≡◌, inl, inr, ◌∙◌}
 use Rattle.campl_cli.proofs.Streams.{failed_in}
-use Rattle.campl_cli.proofs.refuse.tell.Goals as goal
+use Rattle.campl_cli.proofs.telling.tell.Goals as goal
 
 pub returns-in-Err : goal.returns-in-Err
 returns-in-Err g c =

@@ -1,0 +1,241 @@
+//! The command over memory: worked sources, refusals, and faults with their causes.
+use super::*;
+use campl_cli::{Ended, Report};
+use campl_text::{MemShelf, MemSink};
+use std::alloc::{AllocError, Global};
+use std::fs;
+use std::test::Fail;
+use std::thread::Threads;
+
+const HELLO: &str = "proc run :: | Console => where
+    | console => -> do
+        hput ConsolePut on console
+        put \"Hello\" on console
+        hput ConsoleClose on console
+        halt console
+";
+
+const HELLO_OUTPUT: &str = "channel console\n> Hello\nclosed\nfinished after 7 steps\n";
+
+// What the command answered and wrote.
+#[derive(Drop)]
+struct Answer {
+    report: Report,
+    out: MemSink,
+    err: MemSink,
+}
+
+// Words of a command line.
+fn command(alloc: Global, words: &[&str]) -> Result<Vec<String>, AllocError> {
+    let mut command = Vec::new(alloc);
+    for word in words {
+        command.push(String::from_str(alloc, word)?)?;
+    }
+    Ok(command)
+}
+
+// `run FILE` over a shelf and sinks.
+fn run_on<R: Threads + Sync>(
+    rt: &R,
+    alloc: Global,
+    shelf: &mut MemShelf,
+    mut out: MemSink,
+    mut err: MemSink,
+) -> Result<Answer, Fail> {
+    let words = command(alloc, &["run", "source"])?;
+    let report = campl(rt, alloc, &words, shelf, &mut out, &mut err, &OpenGate);
+    Ok(Answer { report, out, err })
+}
+
+// A sink with ample room.
+fn sink(alloc: Global) -> Result<MemSink, AllocError> {
+    MemSink::with_room(alloc, 1_000_000, 1_000_000)
+}
+
+// `run FILE` over a shelf that holds this source.
+fn run_source<R: Threads + Sync>(rt: &R, alloc: Global, source: &[u8]) -> Result<Answer, Fail> {
+    let mut shelf = MemShelf::new(alloc);
+    shelf.put("source", source)?;
+    let (out, err) = (sink(alloc)?, sink(alloc)?);
+    run_on(rt, alloc, &mut shelf, out, err)
+}
+
+#[test]
+fn prints_the_transcript(rt: HostRuntime) -> Result<(), Fail> {
+    let answer = run_source(&rt, rt.alloc(), HELLO.as_bytes())?;
+    assert_eq!(rt; answer.report.status, 0);
+    assert_eq!(rt; answer.report.ended, Some(Ended::Finished));
+    assert_eq!(rt; answer.report.steps, 7);
+    assert_eq!(rt; answer.report.journal.entries().len(), 7);
+    assert!(rt; answer.out.bytes() == HELLO_OUTPUT.as_bytes());
+    assert!(rt; answer.err.bytes().is_empty());
+    Ok(())
+}
+
+#[test]
+fn shows_what_has_no_picture(rt: HostRuntime) -> Result<(), Fail> {
+    let source =
+        "\n\nproc run :: | Console => where\n | c => -> do\n\n  hput ConsolePut on c\n  put \"\u{e9}\u{7f}\" on c\n  hput ConsoleClose on c\n  halt c";
+    let answer = run_source(&rt, rt.alloc(), source.as_bytes())?;
+    let want = "channel c\n> \u{e9}\\u{7f}\nclosed\nfinished after 7 steps\n";
+    assert!(rt; answer.out.bytes() == want.as_bytes());
+    Ok(())
+}
+
+#[test]
+fn refuses_sources(rt: HostRuntime) -> Result<(), Fail> {
+    let not_built = "campl: E60 NotBuilt at 1:1\n";
+    let table: [(&[u8], &str); 5] = [
+        (b"\xFF", "campl: source isn't UTF-8 at byte 0\n"),
+        (b"proc\xC3", "campl: source isn't UTF-8 at byte 4\n"),
+        (b"", not_built),
+        (b"proc run :: | => where\n    | => -> halt\n", not_built),
+        (
+            b"proc run :: | Console => where\n    | c => -> do\n        hput ConsoleGet on c\n",
+            not_built,
+        ),
+    ];
+    for (source, line) in table {
+        let answer = run_source(&rt, rt.alloc(), source)?;
+        assert_eq!(rt; answer.report.status, 3, "of {source:?}");
+        assert!(rt; answer.err.bytes() == line.as_bytes(), "of {source:?}");
+        assert!(rt; answer.out.bytes().is_empty());
+        assert_eq!(rt; answer.report.ended, None);
+        assert!(rt; answer.report.journal.entries().is_empty());
+    }
+    Ok(())
+}
+
+// So many spaces.
+fn spaces(alloc: Global, count: usize) -> Result<Vec<u8>, AllocError> {
+    vec![in alloc; b' '; count]
+}
+
+#[test]
+fn refuses_long_sources(rt: HostRuntime) -> Result<(), Fail> {
+    let longest = spaces(rt.alloc(), 1_048_576)?;
+    let answer = run_source(&rt, rt.alloc(), &longest)?;
+    assert!(rt; answer.err.bytes() == b"campl: E60 NotBuilt at 1:1\n".as_slice());
+    let longer = spaces(rt.alloc(), 1_048_577)?;
+    let answer = run_source(&rt, rt.alloc(), &longer)?;
+    assert_eq!(rt; answer.report.status, 3);
+    assert!(rt; answer.err.bytes() == b"campl: source is longer than 1048576 bytes\n".as_slice());
+    Ok(())
+}
+
+#[test]
+fn refuses_words(rt: HostRuntime) -> Result<(), Fail> {
+    let table: [&[&str]; 7] = [
+        &[],
+        &["run"],
+        &["check", "source"],
+        &["run", ""],
+        &["run", "-source"],
+        &["run", "source", "source"],
+        &["Run", "source"],
+    ];
+    for words in table {
+        let mut shelf = MemShelf::new(rt.alloc());
+        shelf.put("source", HELLO.as_bytes())?;
+        let (mut out, mut err) = (sink(rt.alloc())?, sink(rt.alloc())?);
+        let words = command(rt.alloc(), words)?;
+        let report = campl(
+            &rt,
+            rt.alloc(),
+            &words,
+            &mut shelf,
+            &mut out,
+            &mut err,
+            &OpenGate,
+        );
+        assert_eq!(rt; report.status, 2, "of {words:?}");
+        assert!(rt; err.bytes() == b"campl: bad command line\n".as_slice());
+        assert!(rt; out.bytes().is_empty());
+    }
+    Ok(())
+}
+
+#[test]
+fn a_failed_read_is_told(rt: HostRuntime) -> Result<(), Fail> {
+    let mut shelf = MemShelf::new(rt.alloc());
+    shelf.put("source", HELLO.as_bytes())?;
+    shelf.fail_at(1)?;
+    let (out, err) = (sink(rt.alloc())?, sink(rt.alloc())?);
+    let answer = run_on(&rt, rt.alloc(), &mut shelf, out, err)?;
+    assert_eq!(rt; answer.report.status, 5);
+    assert!(rt; answer.out.bytes().is_empty());
+    assert!(rt; answer.err.bytes() == b"campl: read fault\n".as_slice());
+    let mut empty = MemShelf::new(rt.alloc());
+    let (out, err) = (sink(rt.alloc())?, sink(rt.alloc())?);
+    assert_eq!(rt;
+        run_on(&rt, rt.alloc(), &mut empty, out, err)?.report.status,
+        5
+    );
+    Ok(())
+}
+
+#[test]
+fn a_failed_write_is_told(rt: HostRuntime) -> Result<(), Fail> {
+    let mut shelf = MemShelf::new(rt.alloc());
+    shelf.put("source", HELLO.as_bytes())?;
+    let mut out = MemSink::with_room(rt.alloc(), 1000, 8)?;
+    out.fail_at(2)?;
+    let err = sink(rt.alloc())?;
+    let answer = run_on(&rt, rt.alloc(), &mut shelf, out, err)?;
+    assert_eq!(rt; answer.report.status, 6);
+    assert_eq!(rt; answer.report.ended, Some(Ended::Finished));
+    assert!(rt; answer.out.bytes() == b"channel ".as_slice());
+    assert!(rt; answer.err.bytes() == b"campl: write fault\n".as_slice());
+    Ok(())
+}
+
+#[test]
+fn a_line_that_cannot_be_written_is_a_failed_write(rt: HostRuntime) -> Result<(), Fail> {
+    let mut shelf = MemShelf::new(rt.alloc());
+    shelf.put("source", b"")?;
+    let mut err = MemSink::with_room(rt.alloc(), 1000, 4)?;
+    err.fail_at(2)?;
+    let out = sink(rt.alloc())?;
+    let answer = run_on(&rt, rt.alloc(), &mut shelf, out, err)?;
+    assert_eq!(rt; answer.report.status, 6);
+    assert!(rt; answer.err.bytes() == b"camp".as_slice());
+    assert!(rt; answer.out.bytes().is_empty());
+    Ok(())
+}
+
+#[test]
+fn the_system_gives_faults(rt: HostRuntime) -> Result<(), Fail> {
+    for file in ["/", "/no/such/file"] {
+        let words = command(rt.alloc(), &["run", file])?;
+        let (mut out, mut err) = (sink(rt.alloc())?, sink(rt.alloc())?);
+        let mut shelf = FileShelf::new(&rt);
+        let report = campl(
+            &rt,
+            rt.alloc(),
+            &words,
+            &mut shelf,
+            &mut out,
+            &mut err,
+            &OpenGate,
+        );
+        assert_eq!(rt; report.status, 5, "of {file}");
+        assert!(rt; out.bytes().is_empty());
+    }
+    let mut shelf = MemShelf::new(rt.alloc());
+    shelf.put("source", HELLO.as_bytes())?;
+    let words = command(rt.alloc(), &["run", "source"])?;
+    let mut full = StdSink::new(fs::create(&rt, "/dev/full")?);
+    let mut err = sink(rt.alloc())?;
+    let report = campl(
+        &rt,
+        rt.alloc(),
+        &words,
+        &mut shelf,
+        &mut full,
+        &mut err,
+        &OpenGate,
+    );
+    assert_eq!(rt; report.status, 6);
+    assert!(rt; err.bytes() == b"campl: write fault\n".as_slice());
+    Ok(())
+}
