@@ -1,5 +1,5 @@
 -- A piece has some characters, and no more than the text.
-use Rattle.std.proofs.Common.{◌≡◌, ℕ, zero, suc, ◌+◌, ◌<◌, ◌≤◌, Bool, true, false, cond, eqb, nat_lt, nat_le, not, ◌==◌, List, [], ◌∷◌, length, take, Result, Ok, Err, IfOk, Some, None, refl, sym, subst, ap, ◌∙◌, ◌++◌, arith, length-take, length-append}
+use Rattle.std.proofs.Common.{◌≡◌, ℕ, zero, suc, ◌+◌, ◌<◌, ◌≤◌, Bool, true, false, cond, eqb, nat_lt, nat_le, not, ◌==◌, List, [], ◌∷◌, length, take, Result, Ok, Err, IfOk, Some, refl, sym, subst, ap, ◌∙◌, arith, length-take, length-append}
 use Rattle.std.specs.List.{prefix_len}
 use Rattle.std.specs.Char.{is_ascii_digit}
 use Rattle.std.proofs.lemmas.Bool.Decides.{nat_tests}
@@ -13,9 +13,9 @@ use Rattle.campl_lex.specs.declared.literal.Body.{Body}
 use Rattle.campl_lex.specs.declared.piece.Piece.{Piece}
 use Rattle.campl_lex.specs.declared.fault.LexFault.{LexFault}
 use Rattle.campl_lex.specs.declared.fault.LexFault.TheVariants.{BadCharacter, OpenString, NumberTooLarge, NameTooLong, Tab, TextTooLong}
-use Rattle.campl_lex.specs.Spelling.{begins_name, goes_on, number_of, name_kind, is_single, is_double, is_triple}
+use Rattle.campl_lex.specs.Spelling.{begins_name, goes_on, number_of, name_kind}
 use Rattle.campl_lex.specs.Tokens.{is_white, begins_comment, is_quote}
-use Rattle.campl_lex.specs.Reading.{piece, blank, name_piece, number_piece, literal, literal_by, closed_literal, symbol_piece, symbol_len, scan, peek}
+use Rattle.campl_lex.specs.Reading.{piece, blank, name_piece, number_piece, literal, literal_by, closed_literal, symbol_piece, symbol_len, scan}
 use Rattle.campl_lex.proofs.Scanning.{scan_closed}
 use Rattle.campl_lex.proofs.Symbols.{symbol_found}
 

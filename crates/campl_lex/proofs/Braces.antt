@@ -1,5 +1,5 @@
 -- Layout's braces are balanced, and it puts few tokens.
-use Rattle.std.proofs.Common.{◌≡◌, ℕ, zero, suc, ◌+◌, ◌*◌, ◌<◌, ◌≤◌, Bool, true, false, cond, ◌&&◌, eqb, nat_lt, nat_le, List, [], ◌∷◌, ◌++◌, length, drop, replicate, get_or, Option, Some, None, Result, Ok, Err, IfOk, refl, sym, ap, ◌∙◌, subst, arith, one-add, zero-add, length-append, append_assoc}
+use Rattle.std.proofs.Common.{◌≡◌, ℕ, zero, suc, ◌+◌, ◌*◌, ◌<◌, ◌≤◌, Bool, true, false, cond, ◌&&◌, eqb, nat_lt, nat_le, List, [], ◌∷◌, ◌++◌, length, drop, replicate, Option, Some, None, Result, Ok, Err, IfOk, refl, sym, ap, ◌∙◌, subst, arith, one-add, zero-add, length-append, append_assoc}
 use Rattle.std.specs.List.{prefix_len, All}
 use Rattle.std.proofs.lemmas.List.{length-replicate}
 use Rattle.std.specs.Prelude.{Vec}
@@ -13,7 +13,7 @@ use Rattle.campl_lex.specs.declared.fault.LexFault.TheVariants.{BadColumn}
 use Rattle.campl_lex.specs.declared.stack.Enclosure.{Enclosure}
 use Rattle.campl_lex.specs.declared.stack.Enclosure.TheVariants.{Block, Bracket}
 use Rattle.campl_lex.specs.Enclosure.{is_block_from, has_bracket, nearest, block_count}
-use Rattle.campl_lex.specs.Layout.{Put, onto, andThen, block_opened, blocks_closed, bracket_closed, separated, aligned, closing, before, behind, ended, follow, adds, laid, laid_out, first_brace, inserted, IsWritten, is_inserted, is_block_word, is_closing_bracket, is_opening_bracket, text_of, opens_last, level, is_enclosed, is_opening, IsWhole, Answers}
+use Rattle.campl_lex.specs.Layout.{Put, onto, andThen, block_opened, bracket_closed, separated, aligned, closing, before, behind, follow, adds, laid, laid_out, first_brace, inserted, IsWritten, is_inserted, is_block_word, is_closing_bracket, is_opening_bracket, text_of, opens_last, level, is_enclosed, is_opening, IsWhole, Answers}
 
 -- the source's own block is at the bottom
 abbrev pub Grounded : List Enclosure → Type 0

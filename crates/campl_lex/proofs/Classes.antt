@@ -1,13 +1,13 @@
 -- Which characters begin what.
-use Rattle.std.proofs.Common.{◌≡◌, ℕ, zero, suc, ◌+◌, ◌<◌, ◌≤◌, Bool, true, false, cond, not, ◌&&◌, ◌||◌, ◌==◌, eqb, nat_lt, List, [], ◌∷◌, ◌++◌, length, get_or, refl, sym, ap, ◌∙◌, arith}
+use Rattle.std.proofs.Common.{◌≡◌, ℕ, ◌<◌, Bool, true, false, not, ◌&&◌, ◌||◌, ◌==◌, eqb, nat_lt, List, [], ◌∷◌, get_or, refl, ap, ◌∙◌, arith}
 use Rattle.std.specs.List.{list_any, list_all}
 use Rattle.std.specs.Str.{bytes_eq}
 use Rattle.std.specs.Char.{is_ascii_digit, is_ascii_alphabetic}
 use Rattle.std.proofs.lemmas.Bool.Decides.{nat_tests}
 use Rattle.std.proofs.lemmas.Slice.Eq.{bytes_eq-Decides}
 use Rattle.unicode_ident.proofs.IdentLemmas.{is_xid_start-ascii}
-use Rattle.campl_lex.specs.Spelling.{begins_name, goes_on, is_name, is_number, is_symbol, is_single, is_double, is_triple, singles, doubles, triples}
-use Rattle.campl_lex.specs.Tokens.{is_quote, IsSpelling, name, number, symbol, text, character}
+use Rattle.campl_lex.specs.Spelling.{begins_name, is_symbol, is_single, is_double, is_triple, singles, doubles, triples}
+use Rattle.campl_lex.specs.Tokens.{is_quote}
 
 pub no_name : (c : ℕ) → c < 128 → (is_ascii_alphabetic c || c == 95) ≡ false → begins_name c ≡ false
 no_name c h e = ap (λ b. b || c == 95) (is_xid_start-ascii c h) ∙ e

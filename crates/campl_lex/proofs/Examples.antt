@@ -1,12 +1,10 @@
 -- Worked values of the definitions.
-use Rattle.std.proofs.Common.{◌≡◌, ℕ, true, false, List, [], ◌∷◌, ◌++◌, Some, None, Ok, Err, refl, codes}
-use Rattle.campl_tree.specs.declared.place.Place.{Place}
-use Rattle.campl_lex.specs.declared.token.Token.{Token}
+use Rattle.std.proofs.Common.{◌≡◌, true, false, [], ◌∷◌, Ok, Err, refl, codes}
 use Rattle.campl_lex.specs.declared.token.TokenKind.TheVariants as kind
 use Rattle.campl_lex.specs.declared.fault.LexFault.TheVariants.{BadColumn}
 use Rattle.campl_lex.specs.declared.literal.Stop.TheVariants as stop
 use Rattle.campl_lex.specs.Spot.{place_past, first_place, bytes}
-use Rattle.campl_lex.specs.Spelling.{number_of, is_symbol, is_reserved, kind_of}
+use Rattle.campl_lex.specs.Spelling.{number_of, is_reserved, kind_of}
 use Rattle.campl_lex.specs.Literal.{hex_value}
 use Rattle.campl_lex.specs.Tokens.{begins_comment, is_white}
 use Rattle.campl_lex.specs.Reading.{symbol_len, escape_len, scan}

@@ -1,5 +1,5 @@
 -- Tokens put one step after another.
-use Rattle.std.proofs.Common.{◌≡◌, List, [], ◌∷◌, ◌++◌, Option, Some, None, Result, Ok, Err, refl, sym, ap, ◌∙◌, append_assoc}
+use Rattle.std.proofs.Common.{◌≡◌, List, [], ◌∷◌, ◌++◌, Option, Some, Result, Ok, Err, refl, sym, ap, ◌∙◌, append_assoc}
 use Rattle.campl_tree.specs.declared.place.Place.{Place}
 use Rattle.campl_lex.specs.declared.token.Token.{Token}
 use Rattle.campl_lex.specs.declared.fault.LexFault.{LexFault}

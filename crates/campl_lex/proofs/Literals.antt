@@ -1,15 +1,14 @@
 -- What stands within a literal is what the scan takes for it.
-use Rattle.std.proofs.Common.{◌≡◌, ℕ, zero, suc, ◌+◌, ◌<◌, ◌≤◌, Bool, true, false, cond, not, ◌&&◌, ◌||◌, ◌==◌, eqb, List, [], ◌∷◌, ◌++◌, length, drop, Option, Some, None, refl, sym, ap, ◌∙◌, subst, arith, append_assoc, length-append, one-add, add-zero, ◌-◌}
+use Rattle.std.proofs.Common.{◌≡◌, ℕ, zero, suc, ◌+◌, ◌<◌, ◌≤◌, Bool, true, false, cond, not, ◌&&◌, ◌||◌, eqb, List, [], ◌∷◌, ◌++◌, length, Option, Some, None, refl, sym, ap, ◌∙◌, subst, arith, append_assoc, length-append, one-add, add-zero, ◌-◌}
 use Rattle.std.proofs.lemmas.Bool.Decides.{nat_tests}
 use Rattle.std.proofs.lemmas.List.{drop_at}
 use Rattle.campl_lex.specs.declared.literal.Stop.{Stop}
 use Rattle.campl_lex.specs.declared.literal.Stop.TheVariants as stop
-use Rattle.campl_lex.specs.declared.literal.Body.{Body}
 use Rattle.campl_lex.specs.Literal.{IsEscape, Spells, is_plain}
 use Rattle.campl_lex.specs.Literal as spells
 use Rattle.campl_lex.specs.Tokens.{is_quote}
-use Rattle.campl_lex.specs.Reading.{escape_len, tail_len, item_len, stop_of, longer, stopped, scan}
-use Rattle.campl_lex.proofs.Scanning.{scan_step, scan_stops, longer_none, longer_longer, scan_skip}
+use Rattle.campl_lex.specs.Reading.{escape_len, tail_len, stop_of, longer, stopped, scan}
+use Rattle.campl_lex.proofs.Scanning.{scan_stops, longer_none, longer_longer, scan_skip}
 use Rattle.campl_lex.proofs.Escapes.{escape_is, escape_found, escape_some, HasEscape}
 
 plain_stop : (q c : ℕ) (x : List ℕ) → is_plain q c ≡ true → stop_of q (c ∷ x) ≡ None

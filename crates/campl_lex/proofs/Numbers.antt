@@ -1,10 +1,10 @@
 -- Numbers only grow with more digits.
-use Rattle.std.proofs.Common.{◌≡◌, ℕ, ◌+◌, ◌*◌, ◌≤◌, ◌<◌, List, [], ◌∷◌, arith, false, nat_le, subst}
+use Rattle.std.proofs.Common.{◌≡◌, ℕ, ◌+◌, ◌*◌, ◌≤◌, ◌<◌, List, [], ◌∷◌, arith, false}
 use Rattle.std.specs.List.{fold}
 use Rattle.std.proofs.lemmas.Bool.Decides.{nat_tests}
 use lib.Utf8.{scalar}
 use Rattle.std.proofs.Math.Nat.{mul-le-mul_left}
-use Rattle.std.proofs.Common.{length, get_or, drop, sym, ap, ◌∙◌}
+use Rattle.std.proofs.Common.{length, get_or, drop, ap}
 use Rattle.std.proofs.lemmas.List.{at_drop_more}
 
 pub grown : (base : ℕ) (digit : ℕ → ℕ) (n : ℕ) (ds : List ℕ) → 1 ≤ base → n ≤ fold (λ m d. m * base + digit d) n ds

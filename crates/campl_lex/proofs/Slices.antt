@@ -1,5 +1,5 @@
 -- The tokens that are read are slices of the source's bytes.
-use Rattle.std.proofs.Common.{◌≡◌, ℕ, ◌+◌, ◌-◌, List, [], ◌∷◌, ◌++◌, length, take, drop, Result, Ok, Err, refl, sym, ap, ◌∙◌, subst, arith}
+use Rattle.std.proofs.Common.{◌≡◌, ℕ, ◌+◌, ◌-◌, List, [], ◌∷◌, ◌++◌, take, drop, Result, Ok, Err, refl, sym, ap, ◌∙◌, subst, arith}
 use Rattle.std.specs.List.{All}
 use Rattle.std.specs.Str.{encode_utf8_all}
 use Rattle.std.proofs.lemmas.List.{take_at, drop_at, drop-drop}
@@ -7,10 +7,10 @@ use Rattle.std.proofs.lemmas.Str.{encodes-append}
 use Rattle.campl_lex.specs.declared.token.Token.{Token}
 use Rattle.campl_lex.specs.declared.spot.Spot.{Spot}
 use Rattle.campl_lex.specs.declared.fault.LexFault.{LexFault}
-use Rattle.campl_lex.specs.Spot.{past, bytes}
+use Rattle.campl_lex.specs.Spot.{bytes}
 use Rattle.campl_lex.specs.Tokens.{Lexes, token, IsToken, IsSlice}
 use Rattle.campl_lex.specs.Tokens as says
-use Rattle.campl_lex.specs.Layout.{adds, text_of}
+use Rattle.campl_lex.specs.Layout.{adds}
 use Rattle.campl_lex.proofs.Spots.{bytes-encodes}
 use Rattle.campl_lex.proofs.Written.{all_more, all_none}
 

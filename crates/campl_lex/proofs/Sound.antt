@@ -1,45 +1,20 @@
 -- What stands at the front of a text is what the function says.
-use Rattle.std.proofs.Common.{◌≡◌, ◌≢◌, ℕ, zero, suc, ◌+◌, ◌<◌, ◌≤◌, Bool, true, false, cond, not, ◌&&◌, ◌||◌, ◌==◌, eqb, nat_lt, nat_le, List, [], ◌∷◌, ◌++◌, length, take, drop, Option, Some, None, Result, Ok, Err, refl, sym, ap, ◌∙◌, subst, arith, append_assoc, length-append, add-one, add-zero, add_assoc}
-use Rattle.std.specs.List.{prefix_len, list_all}
+use Rattle.std.proofs.Common.{◌≡◌, ℕ, suc, ◌+◌, Bool, true, false, not, ◌&&◌, ◌==◌, eqb, List, [], ◌∷◌, length, take, drop, None, refl, sym, ap, subst, arith}
+use Rattle.std.specs.List.{prefix_len}
 use Rattle.std.specs.Char.{is_ascii_digit}
 use Rattle.std.proofs.lemmas.Bool.Decides.{nat_tests}
-use Rattle.std.proofs.lemmas.List.{take-append-drop, take_at, drop_at, length-take-le}
+use Rattle.std.proofs.lemmas.List.{length-take-le}
 use Rattle.std.proofs.lemmas.List.Sums.{prefix_len-le-length}
 use Rattle.campl_tree.specs.declared.place.Place.{Place}
-use Rattle.campl_lex.specs.declared.limits.TheConstants.{NAME_MAX, TEXT_MAX, NUMBER_MAX}
-use Rattle.campl_lex.specs.declared.token.TokenKind.{TokenKind}
-use Rattle.campl_lex.specs.declared.token.TokenKind.TheVariants as kind
-use Rattle.campl_lex.specs.declared.literal.Stop.{Stop}
-use Rattle.campl_lex.specs.declared.literal.Stop.TheVariants as stop
-use Rattle.campl_lex.specs.declared.literal.Body.{Body}
-use Rattle.campl_lex.specs.declared.piece.Piece.{Piece}
-use Rattle.campl_lex.specs.declared.fault.LexFault.{LexFault}
-use Rattle.campl_lex.specs.declared.fault.LexFault.TheVariants.{BadCharacter, OpenString, BadEscape, NumberTooLarge, NameTooLong, Tab, TextTooLong}
-use Rattle.campl_lex.specs.Spot.{place_past}
-use Rattle.campl_lex.specs.Spelling.{begins_name, goes_on, is_name, is_number, number_of, is_symbol, name_kind, kind_of}
-use Rattle.campl_lex.specs.Literal.{IsEscape, Spells}
+use Rattle.campl_lex.specs.declared.fault.LexFault.TheVariants.{Tab}
+use Rattle.campl_lex.specs.Spelling.{begins_name, goes_on}
 use Rattle.campl_lex.specs.Tokens.{is_white, begins_comment, begins_with, ends_line, is_quote, IsBlank, IsSpelling, IsLongest, IsWithinLimits, IsToken, Offends}
 use Rattle.campl_lex.specs.Tokens as says
-use Rattle.campl_lex.specs.Reading.{piece, blank, name_piece, number_piece, literal, literal_by, closed_literal, symbol_piece, symbol_len, scan, right, stop_of, escape_len}
-use Rattle.campl_lex.proofs.Runs.{run_passes, run_longest, run_stops, run_before, run_whole}
-use Rattle.campl_lex.proofs.Classes.{no_name, digit_no_name}
-use Rattle.campl_lex.proofs.Families.{name_first, number_first, quote_no_name, quote_no_digit, some_spelled, spelled_name, spelled_number, spelled_symbol, spelled_literal, spelled_no_blank, Quoted}
-use Rattle.campl_lex.proofs.Symbols.{symbol_longest, symbol_found}
+use Rattle.campl_lex.specs.Reading.{piece}
+use Rattle.campl_lex.proofs.Runs.{run_passes, run_stops}
 use Rattle.campl_lex.proofs.Pieces.{piece_tab, piece_white, piece_comment, piece_name, piece_number, piece_literal, piece_symbol}
-use Rattle.campl_lex.proofs.Escapes.{escape_is, escape_found, HasEscape}
-use Rattle.campl_lex.proofs.Literals.{scan_is, finds, Found}
-use Rattle.std.proofs.Common.{inl, inr, ◌⊎◌}
-use Rattle.campl_lex.proofs.Stands.{apart, same_head, same_tail, Front, Stands}
-use Rattle.std.proofs.lemmas.List.Folds.{list_all-append}
-use Rattle.std.proofs.Common.{one-add}
-use Rattle.campl_lex.specs.Spot.{after}
-use Rattle.campl_lex.specs.Literal.{short_escape, is_hex_digit}
-use Rattle.campl_lex.specs.Literal as lit
-use Rattle.campl_lex.proofs.Escapes.{escape_some}
-use Rattle.campl_lex.proofs.Families.{differs}
-use Rattle.campl_lex.proofs.Stands.{both}
-use Rattle.campl_lex.proofs.StandsLiteral.{quote_cases, Why, why_from, tab_stops, line_stops, quote_stops, backslash_stops, literal_is, literal_most}
-use Rattle.campl_lex.proofs.Stands.{run_split, run_size, name_longest, number_longest, kind_name, kind_number, kind_symbol, symbol_most, sound_name, sound_number, sound_symbol}
+use Rattle.campl_lex.proofs.Stands.{apart, Front, Stands}
+use Rattle.campl_lex.proofs.Stands.{run_split, run_size, sound_name, sound_number, sound_symbol}
 use Rattle.campl_lex.proofs.SoundLiteral.{sound_literal, stays}
 
 ends_from : (rest : List ℕ) → ((y : ℕ) (ys : List ℕ) → rest ≡ y ∷ ys → stays y ≡ false) → ends_line rest ≡ true

@@ -1,33 +1,25 @@
 -- What stands at the front of a text is what the relation says of it.
-use Rattle.std.proofs.Common.{◌≡◌, ◌≢◌, ℕ, zero, suc, ◌+◌, ◌<◌, ◌≤◌, Bool, true, false, cond, not, ◌&&◌, ◌||◌, ◌==◌, eqb, nat_lt, nat_le, List, [], ◌∷◌, ◌++◌, length, take, drop, Option, Some, None, Result, Ok, Err, refl, sym, ap, ◌∙◌, subst, arith, append_assoc, length-append, add-one, add-zero, add_assoc}
+use Rattle.std.proofs.Common.{◌≡◌, ℕ, zero, suc, ◌<◌, ◌≤◌, Bool, true, false, cond, ◌&&◌, ◌||◌, ◌==◌, eqb, nat_lt, nat_le, List, [], ◌∷◌, ◌++◌, length, take, drop, Option, Some, None, Result, Ok, Err, refl, sym, ap, ◌∙◌, subst, arith}
 use Rattle.std.specs.List.{prefix_len, list_all}
 use Rattle.std.specs.Char.{is_ascii_digit}
 use Rattle.std.proofs.lemmas.Bool.Decides.{nat_tests}
-use Rattle.std.proofs.lemmas.List.{take-append-drop, take_at, drop_at, length-take-le}
+use Rattle.std.proofs.lemmas.List.{take-append-drop, length-take-le}
 use Rattle.std.proofs.lemmas.List.Sums.{prefix_len-le-length}
 use Rattle.campl_tree.specs.declared.place.Place.{Place}
-use Rattle.campl_lex.specs.declared.limits.TheConstants.{NAME_MAX, TEXT_MAX, NUMBER_MAX}
+use Rattle.campl_lex.specs.declared.limits.TheConstants.{NAME_MAX, NUMBER_MAX}
 use Rattle.campl_lex.specs.declared.token.TokenKind.{TokenKind}
 use Rattle.campl_lex.specs.declared.token.TokenKind.TheVariants as kind
-use Rattle.campl_lex.specs.declared.literal.Stop.{Stop}
-use Rattle.campl_lex.specs.declared.literal.Stop.TheVariants as stop
-use Rattle.campl_lex.specs.declared.literal.Body.{Body}
 use Rattle.campl_lex.specs.declared.piece.Piece.{Piece}
 use Rattle.campl_lex.specs.declared.fault.LexFault.{LexFault}
-use Rattle.campl_lex.specs.declared.fault.LexFault.TheVariants.{BadCharacter, OpenString, BadEscape, NumberTooLarge, NameTooLong, Tab, TextTooLong}
-use Rattle.campl_lex.specs.Spot.{place_past}
-use Rattle.campl_lex.specs.Spelling.{begins_name, goes_on, is_name, is_number, number_of, is_symbol, name_kind, kind_of}
-use Rattle.campl_lex.specs.Literal.{IsEscape, Spells}
+use Rattle.campl_lex.specs.declared.fault.LexFault.TheVariants.{BadCharacter, NumberTooLarge, NameTooLong}
+use Rattle.campl_lex.specs.Spelling.{begins_name, goes_on, number_of, is_symbol, name_kind, kind_of}
 use Rattle.campl_lex.specs.Tokens.{is_white, begins_comment, begins_with, ends_line, is_quote, IsBlank, IsSpelling, IsLongest, IsWithinLimits, IsToken, Offends}
 use Rattle.campl_lex.specs.Tokens as says
-use Rattle.campl_lex.specs.Reading.{piece, blank, name_piece, number_piece, literal, literal_by, closed_literal, symbol_piece, symbol_len, scan, right, stop_of, escape_len}
-use Rattle.campl_lex.proofs.Runs.{run_passes, run_longest, run_stops, run_before, run_whole}
-use Rattle.campl_lex.proofs.Classes.{no_name, digit_no_name}
-use Rattle.campl_lex.proofs.Families.{name_first, number_first, quote_no_name, quote_no_digit, some_spelled, spelled_name, spelled_number, spelled_symbol, spelled_literal, spelled_no_blank, differs, Quoted}
+use Rattle.campl_lex.specs.Reading.{name_piece, number_piece, symbol_piece, symbol_len}
+use Rattle.campl_lex.proofs.Runs.{run_longest}
+use Rattle.campl_lex.proofs.Classes.{digit_no_name}
+use Rattle.campl_lex.proofs.Families.{name_first, number_first, quote_no_name, some_spelled, spelled_name, spelled_number, spelled_symbol, differs}
 use Rattle.campl_lex.proofs.Symbols.{symbol_longest, symbol_found}
-use Rattle.campl_lex.proofs.Pieces.{piece_tab, piece_white, piece_comment, piece_name, piece_number, piece_literal, piece_symbol}
-use Rattle.campl_lex.proofs.Escapes.{escape_is, escape_found, HasEscape}
-use Rattle.campl_lex.proofs.Literals.{scan_is, finds, Found}
 
 pub apart : {A : Type 0} (b : Bool) → b ≡ true → b ≡ false → A
 apart b h k = let e : true ≡ false = sym h ∙ k in absurd (let f : ⊥ = cc in f)

@@ -1,5 +1,5 @@
 -- The longest symbol.
-use Rattle.std.proofs.Common.{◌≡◌, ℕ, zero, suc, ◌+◌, ◌<◌, ◌≤◌, Bool, true, false, cond, not, ◌&&◌, ◌==◌, List, [], ◌∷◌, ◌++◌, length, refl, sym, ap, ◌∙◌, subst, arith}
+use Rattle.std.proofs.Common.{◌≡◌, ℕ, suc, ◌≤◌, Bool, true, false, cond, not, ◌&&◌, ◌==◌, List, [], ◌∷◌, ◌++◌, length, refl, subst, arith}
 use Rattle.campl_lex.specs.Spelling.{is_symbol, is_single, is_double, is_triple}
 use Rattle.campl_lex.specs.Reading.{symbol_len, peek}
 use Rattle.campl_lex.proofs.Classes.{begins_symbol, double_begins, triple_begins}

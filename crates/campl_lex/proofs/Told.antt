@@ -1,5 +1,5 @@
 -- What is answered is what the relation says.
-use Rattle.std.proofs.Common.{◌≡◌, ◌≢◌, ℕ, ◌<◌, ◌≤◌, List, length, Result, Ok, Err, IfOk, Vec, refl, sym, ap, ◌∙◌, subst, arith}
+use Rattle.std.proofs.Common.{◌≡◌, ℕ, ◌≤◌, List, length, Result, Ok, Err, IfOk, Vec, refl, sym, subst, arith}
 use Rattle.std.specs.List.{All}
 use Rattle.std.specs.Str.{encode_utf8_all}
 use Rattle.campl_lex.specs.declared.token.Token.{Token}

@@ -1,5 +1,5 @@
 -- Where layout puts `{`, `}` and `;`, by its rules: a function from tokens and the end's place to a list of tokens or the first bad column.
-use Rattle.std.specs.Prelude.{◌≡◌, ℕ, zero, suc, ◌+◌, ◌≤◌, Bool, true, false, ◌&&◌, ◌||◌, ◌==◌, nat_lt, ◌<◌, if◌then◌else◌, List, [], ◌∷◌, ◌++◌, length, drop, replicate, slice_range, slice_get, ◌-◌, Option, Some, None, Result, Ok, Err, MatchResult, ◌≢◌, Vec, codes}
+use Rattle.std.specs.Prelude.{◌≡◌, ℕ, zero, suc, ◌≤◌, Bool, true, false, ◌&&◌, ◌||◌, ◌==◌, nat_lt, ◌<◌, if◌then◌else◌, List, [], ◌∷◌, ◌++◌, length, drop, replicate, slice_range, Option, Some, None, Result, Ok, Err, MatchResult, ◌≢◌, Vec, codes}
 use Rattle.std.specs.List.{prefix_len}
 use Rattle.std.specs.Str.{bytes_eq}
 use Rattle.campl_tree.specs.declared.place.Place.{Place}

@@ -1,5 +1,5 @@
 -- How characters are spelled within literals. A character is its code: 9 is Tab, 10 LF, 34 ", 39 ', 92 \, 117 u, 123 {, 125 }.
-use Rattle.std.specs.Prelude.{◌≡◌, ℕ, ◌+◌, ◌*◌, ◌≤◌, Bool, true, false, not, ◌||◌, ◌==◌, nat_lt, cond, List, [], ◌∷◌, ◌++◌, length, Option, Some, None}
+use Rattle.std.specs.Prelude.{◌≡◌, ℕ, ◌+◌, ◌*◌, ◌≤◌, Bool, true, not, ◌||◌, ◌==◌, nat_lt, cond, List, [], ◌∷◌, ◌++◌, length, Option, Some, None}
 use Rattle.std.specs.List.{list_all, fold}
 use Rattle.std.specs.Char.{digit_value, IsScalar}
 

@@ -1,5 +1,5 @@
 -- What stands at the front of a text and which tokens follow, as functions: the way from a text to what `Tokens` says of it.
-use Rattle.std.specs.Prelude.{ℕ, zero, suc, ◌+◌, ◌-◌, Bool, true, false, not, ◌&&◌, ◌==◌, nat_lt, nat_le, if◌then◌else◌, List, [], ◌∷◌, length, take, Option, Some, None, is_some, slice_index_or, Result, Ok, Err}
+use Rattle.std.specs.Prelude.{ℕ, zero, suc, ◌+◌, ◌-◌, not, ◌&&◌, ◌==◌, nat_lt, nat_le, if◌then◌else◌, List, [], ◌∷◌, length, take, Option, Some, None, is_some, slice_index_or, Result, Ok, Err}
 use Rattle.std.specs.List.{prefix_len}
 use Rattle.std.specs.Char.{is_ascii_digit}
 use lib.Utf8.{scalar}
@@ -18,7 +18,7 @@ use Rattle.campl_lex.specs.declared.fault.LexFault.TheVariants.{BadCharacter, Op
 use Rattle.campl_lex.specs.Spot.{past}
 use Rattle.campl_lex.specs.Spelling.{begins_name, goes_on, number_of, is_single, is_double, is_triple, name_kind}
 use Rattle.campl_lex.specs.Literal.{short_escape, is_hex_digit, hex_value}
-use Rattle.campl_lex.specs.Tokens.{begins_with, begins_comment, is_white, is_quote}
+use Rattle.campl_lex.specs.Tokens.{begins_comment, is_white, is_quote}
 use Rattle.campl_lex.specs.Layout.{adds}
 
 -- the character at an index, 0 past the end

@@ -1,4 +1,4 @@
-use Rattle.std.proofs.Common.{◌<◌, arith, sym}
+use Rattle.std.proofs.Common.{arith, sym}
 use Rattle.campl_lex.proofs.Numbers.{above, no_scalar}
 use Rattle.campl_lex.specs.Literal.{hex_digit, hex_value}
 use Rattle.campl_lex.proofs.letters.names_character.Goals as goal

@@ -1,8 +1,8 @@
-use Rattle.std.proofs.Common.{◌≡◌, ◌≢◌, ◌<◌, ◌≤◌, ◌+◌, ◌-◌, ◌++◌, length, take, drop, sym, ap, ◌∙◌, arith, Err, length-take, length-drop}
+use Rattle.std.proofs.Common.{◌≡◌, ◌<◌, ◌+◌, ◌-◌, ◌++◌, length, take, drop, sym, ap, ◌∙◌, arith, Err, length-take, length-drop}
 use Rattle.std.proofs.lemmas.Grind.{common_steps}
 use Rattle.std.proofs.lemmas.List.{take_rest}
 use Rattle.campl_lex.specs.declared.spot.Spot.{Spot}
-use Rattle.campl_lex.specs.Spot.{first_spot, past, place_past, bytes}
+use Rattle.campl_lex.specs.Spot.{first_spot, place_past, bytes}
 use Rattle.campl_lex.specs.Reading.{lexed, tokens_of}
 use Rattle.campl_lex.specs.Layout.{adds}
 use Rattle.campl_lex.proofs.Spots.{length_le_bytes, bytes_split, line_past, column_past}

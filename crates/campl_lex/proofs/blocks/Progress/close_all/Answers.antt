@@ -1,4 +1,4 @@
-use Rattle.std.proofs.Common.{◌≡◌, ◌++◌, ap, sym, ◌∙◌, replicate, append-nil}
+use Rattle.std.proofs.Common.{◌++◌, ap, sym, ◌∙◌, replicate, append-nil}
 use Rattle.campl_lex.specs.Enclosure.{block_count}
 use Rattle.campl_lex.specs.Layout.{inserted}
 use Rattle.campl_lex.specs.declared.token.TokenKind.TheVariants.{Close}

@@ -1,7 +1,7 @@
-use Rattle.std.proofs.Common.{◌≡◌, ◌≢◌, ◌<◌, ◌++◌, [], ◌∷◌, None, Some, Err, length, get_or, drop, ap, sym, ◌∙◌, arith, rules, slice_index_or, ◌+◌}
+use Rattle.std.proofs.Common.{◌≡◌, ◌≢◌, None, Err, ap, sym, ◌∙◌, arith, rules}
 use Rattle.std.proofs.lemmas.Grind.{common_steps}
 use Rattle.campl_tree.specs.declared.place.Place.{Place}
-use Rattle.campl_lex.specs.Layout.{laid, adds, before, behind}
+use Rattle.campl_lex.specs.Layout.{laid, adds}
 use Rattle.campl_lex.specs.declared.fault.LexFault.TheVariants.{OutOfMemory}
 use Rattle.campl_lex.proofs.Follows.{goes_on, fails_here, ends_here}
 use Rattle.campl_lex.proofs.blocks.Progress.put_all.Goals as goal
