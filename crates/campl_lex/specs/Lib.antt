@@ -1,0 +1,7 @@
+pub mod Enclosure
+pub mod Layout
+pub mod Literal
+pub mod Reading
+pub mod Spelling
+pub mod Spot
+pub mod Tokens
