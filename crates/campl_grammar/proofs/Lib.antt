@@ -1,0 +1,4 @@
+pub mod Passing
+pub mod Exactness
+pub mod ByRule
+pub mod Braces

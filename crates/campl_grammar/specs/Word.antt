@@ -1,0 +1,81 @@
+-- Words: tokens as the grammar sees them, each a plain value with its text.
+use Rattle.std.specs.Prelude.{ℕ, zero, suc, ◌+◌, ◌-◌, ◌*◌, ◌==◌, min, Bool, if◌then◌else◌, List, [], ◌∷◌, length, take, drop, chars, ℤ, pos, Option, Some, None}
+use Rattle.std.specs.List.{fold, prefix_len}
+use denote.Enum.Bare.{sameb}
+use Rattle.campl_tree.specs.declared.place.Place.{Place}
+use Rattle.campl_tree.specs.declared.place.Ident.{Ident}
+use Rattle.campl_lex.specs.Literal.{short_escape, is_hex_digit, hex_value}
+use Rattle.campl_lex.specs.Reading.{escape_len}
+use Rattle.campl_gram.specs.Grammar.{Terminals}
+use Rattle.campl_gram.specs.OneKind.{by_kind}
+use Rattle.campl_grammar.specs.contracts.kind.Kind.{the_type}
+use Rattle.campl_grammar.specs.declared.kind.Kind.{Kind}
+
+-- a word: its kind, the bytes of its text, and the place of its first character
+pub record Word : Type 0 where
+  pub kind : Kind
+  pub text : List ℕ
+  pub place : Place
+
+-- kinds are the same
+unfoldable pub same : Kind → Kind → Bool
+same = sameb the_type
+
+-- the place of no words
+abbrev pub nowhere : Place
+nowhere = record { line = 0; column = 0 }
+
+-- of which kind a word is, and where it stands
+unfoldable pub terminals : Terminals Word Kind Place
+terminals = by_kind same (λ w. w.kind) (λ w. w.place) nowhere
+
+-- ---- what a word's text says
+
+-- the name that a word spells
+abbrev pub name_of : Word → List ℕ
+name_of w = chars w.text
+
+-- the same with its place
+abbrev pub ident_of : Word → Ident
+ident_of w = record { place = w.place; name = name_of w }
+
+-- the greatest number
+abbrev pub greatest : ℕ
+greatest = 9223372036854775807
+
+-- the number that digits are, which is never above the greatest
+unfoldable pub digits : List ℕ → ℕ
+digits w = fold (λ n d. min (n * 10 + (d - 48)) greatest) 0 w
+
+abbrev pub number_of : Word → ℤ
+number_of w = pos (digits w.text)
+
+-- the character that an escape stands for, told by what follows its backslash (123 is `{`)
+abbrev pub escaped : List ℕ → ℕ
+escaped [] = 0
+escaped (c ∷ cs) = by (short_escape c)
+  where
+    by : Option ℕ → ℕ
+    by (Some x) = x
+    by None = hex_value (take (prefix_len is_hex_digit (drop 1 cs)) (drop 1 cs))
+
+-- the characters that those of a literal stand for, with some still to skip (92 is a backslash)
+abbrev pub unescaped : ℕ → List ℕ → List ℕ
+unescaped skip [] = []
+unescaped (suc n) (c ∷ cs) = unescaped n cs
+unescaped zero (c ∷ cs) = if c == 92 then escaped cs ∷ unescaped (escape_len cs) cs else c ∷ unescaped 0 cs
+
+-- what stands between the quotes
+abbrev pub between : List ℕ → List ℕ
+between cs = take (length cs - 2) (drop 1 cs)
+
+-- the characters of a text, and the one of a character literal
+unfoldable pub text_of : Word → List ℕ
+text_of w = unescaped 0 (between (chars w.text))
+
+abbrev pub first_or_zero : List ℕ → ℕ
+first_or_zero [] = 0
+first_or_zero (c ∷ cs) = c
+
+unfoldable pub character_of : Word → ℕ
+character_of w = first_or_zero (text_of w)

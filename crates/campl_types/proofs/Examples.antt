@@ -1,0 +1,6 @@
+-- Worked examples.
+mod Sources
+mod Declared
+mod Polarity
+mod Missing
+mod Typed

@@ -1,0 +1,8 @@
+pub mod Names
+mod Trees
+mod Unlike
+mod UnlikeChan
+pub mod SameType
+mod TwoEnds
+pub mod Missing
+mod Examples

@@ -1,0 +1,42 @@
+-- The test of names decides whether they are the same.
+use Rattle.std.proofs.Common.{◌≡◌, ◌∙◌, refl, sym, ap, ℕ, Bool, true, false, ◌&&◌, List, [], ◌∷◌, eqb, eqb-true, eq-eqb, true≢false}
+use Rattle.campl_types.specs.Names.{Name, same_name}
+
+first-same : (a b : ℕ) (c : Bool) → (eqb a b && c) ≡ true → a ≡ b
+first-same a b c i = eqb-true a b (go (eqb a b) c i)
+  where
+    go : (p q : Bool) → (p && q) ≡ true → p ≡ true
+    go true q j = refl
+    go false q j = j
+
+rest-same : (p q : Bool) → (p && q) ≡ true → q ≡ true
+rest-same true q j = j
+rest-same false q j = absurd (true≢false (sym j))
+
+pub same-is : (x y : Name) → same_name x y ≡ true → x ≡ y
+same-is [] [] i = refl
+same-is [] (b ∷ y) i = absurd (true≢false (sym i))
+same-is (a ∷ x) [] i = absurd (true≢false (sym i))
+same-is (a ∷ x) (b ∷ y) i =
+    let p : a ≡ b = first-same a b (same_name x y) i in
+    let q : x ≡ y = same-is x y (rest-same (eqb a b) (same_name x y) i) in
+    cc (p, q)
+
+pub same-itself : (x : Name) → same_name x x ≡ true
+same-itself [] = refl
+same-itself (a ∷ x) = rw (eq-eqb a a refl, same-itself x) refl
+
+pub same-turned : (x y : Name) → same_name x y ≡ same_name y x
+same-turned [] [] = refl
+same-turned [] (b ∷ y) = refl
+same-turned (a ∷ x) [] = refl
+same-turned (a ∷ x) (b ∷ y) = let p : eqb a b ≡ eqb b a = turned a b in let q : same_name x y ≡ same_name y x = same-turned x y in rw (p, q) refl
+  where
+    turned : (m n : ℕ) → eqb m n ≡ eqb n m
+    turned m n = go (eqb m n) (eqb n m) refl refl
+      where
+        go : (p q : Bool) → eqb m n ≡ p → eqb n m ≡ q → p ≡ q
+        go true true i j = refl
+        go false false i j = refl
+        go true false i j = absurd (true≢false (sym (eq-eqb n m (sym (eqb-true m n i))) ∙ j))
+        go false true i j = absurd (true≢false (sym (eq-eqb m n (sym (eqb-true n m j))) ∙ i))
