@@ -4,3 +4,5 @@ mod Declared
 mod Polarity
 mod Missing
 mod Typed
+mod Parameters
+mod Plugs

@@ -4,5 +4,7 @@ mod Unlike
 mod UnlikeChan
 pub mod SameType
 mod TwoEnds
+pub mod DeclaredOnce
+pub mod Turned
 pub mod Missing
 mod Examples

@@ -1,5 +1,5 @@
 -- The test of names decides whether they are the same.
-use Rattle.std.proofs.Common.{◌≡◌, ◌∙◌, refl, sym, ap, ℕ, Bool, true, false, ◌&&◌, List, [], ◌∷◌, eqb, eqb-true, eq-eqb, true≢false}
+use Rattle.std.proofs.Common.{◌≡◌, ◌∙◌, ◌⊎◌, inl, inr, refl, sym, ap, ℕ, Bool, true, false, ◌&&◌, List, [], ◌∷◌, eqb, eqb-true, eq-eqb, true≢false}
 use Rattle.campl_types.specs.Names.{Name, same_name}
 
 first-same : (a b : ℕ) (c : Bool) → (eqb a b && c) ≡ true → a ≡ b
@@ -40,3 +40,11 @@ same-turned (a ∷ x) (b ∷ y) = let p : eqb a b ≡ eqb b a = turned a b in le
         go false false i j = refl
         go true false i j = absurd (true≢false (sym (eq-eqb n m (sym (eqb-true m n i))) ∙ j))
         go false true i j = absurd (true≢false (sym (eq-eqb m n (sym (eqb-true n m j))) ∙ i))
+
+-- the same name, or different ones
+pub split-names : (x y : Name) → (x ≡ y) ⊎ (same_name x y ≡ false)
+split-names x y = go (same_name x y) refl
+  where
+    go : (b : Bool) → same_name x y ≡ b → (x ≡ y) ⊎ (same_name x y ≡ false)
+    go true i = inl (same-is x y i)
+    go false i = inr i

@@ -76,7 +76,7 @@ abbrev pub coprotocol_choices : CoprotocolDecl → List SeqType → Choices
 coprotocol_choices d ts =
     map (λ (k : CoprotocolConstructor). (k.name.name, line d.local d.name d.parameters ts k.channel_type)) d.constructors
 
-abbrev of_named : Option TypeEntry → Side → List SeqType → Deed
+abbrev pub of_named : Option TypeEntry → Side → List SeqType → Deed
 of_named (Some (ProtocolType d)) Output ts = Picks (protocol_choices d ts)
 of_named (Some (ProtocolType d)) Input ts = Offers (protocol_choices d ts)
 of_named (Some (CoprotocolType d)) Output ts = Offers (coprotocol_choices d ts)

@@ -39,7 +39,7 @@ abbrev pub declared_from : ℕ → List Decl → List (Space × Ident)
 declared_from n [] = []
 declared_from n (d ∷ ds) = declares n d ++ declared_from (suc n) ds
 
-abbrev is_declared : Space → Ident → List (Space × Ident) → Bool
+abbrev pub is_declared : Space → Ident → List (Space × Ident) → Bool
 is_declared s x [] = false
 is_declared s x (e ∷ earlier) = same_space s e.0 && same_name x.name e.1.name || is_declared s x earlier
 

@@ -48,7 +48,7 @@ pub data Letter : Type 0 where
 abbrev nth : Side → Choices → ℕ → View → Type 0
 nth s cs n next = (x : Name) × (t : ChanType) × (slice_get cs n ≡ Some (x, t)) × (next ≡ view_of s t)
 
-abbrev taken_at : World → Side → Deed → Letter → View → Type 0
+abbrev pub taken_at : World → Side → Deed → Letter → View → Type 0
 taken_at w s (Gets t x) (Word v) next = IsValue w v t × (next ≡ view_of s x)
 taken_at w s (Offers cs) (Pick n) next = nth s cs n next
 taken_at w s (Splits x y) TwoEnds next = next ≡ Nothing

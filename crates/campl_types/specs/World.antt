@@ -62,7 +62,7 @@ parameters_of (DataType d) = names_of d.parameters
 parameters_of (ProtocolType d) = names_of d.parameters
 parameters_of (CoprotocolType d) = names_of d.parameters
 
-abbrev as_data : Option TypeEntry → Option DataDecl
+abbrev pub as_data : Option TypeEntry → Option DataDecl
 as_data (Some (DataType d)) = Some d
 as_data (Some (ProtocolType d)) = None
 as_data (Some (CoprotocolType d)) = None
@@ -78,15 +78,15 @@ pub data ConstructorEntry : Type 0 where
   OfProtocol : ProtocolDecl → ℕ → ProtocolConstructor → ConstructorEntry
   OfCoprotocol : CoprotocolDecl → ℕ → CoprotocolConstructor → ConstructorEntry
 
-abbrev among_data : DataDecl → ℕ → List DataConstructor → Name → Option ConstructorEntry
+abbrev pub among_data : DataDecl → ℕ → List DataConstructor → Name → Option ConstructorEntry
 among_data d n [] x = None
 among_data d n (k ∷ ks) x = if same_name x k.name.name then Some (OfData d n k) else among_data d (suc n) ks x
 
-abbrev among_protocol : ProtocolDecl → ℕ → List ProtocolConstructor → Name → Option ConstructorEntry
+abbrev pub among_protocol : ProtocolDecl → ℕ → List ProtocolConstructor → Name → Option ConstructorEntry
 among_protocol d n [] x = None
 among_protocol d n (k ∷ ks) x = if same_name x k.name.name then Some (OfProtocol d n k) else among_protocol d (suc n) ks x
 
-abbrev among_coprotocol : CoprotocolDecl → ℕ → List CoprotocolConstructor → Name → Option ConstructorEntry
+abbrev pub among_coprotocol : CoprotocolDecl → ℕ → List CoprotocolConstructor → Name → Option ConstructorEntry
 among_coprotocol d n [] x = None
 among_coprotocol d n (k ∷ ks) x = if same_name x k.name.name then Some (OfCoprotocol d n k) else among_coprotocol d (suc n) ks x
 

@@ -14,6 +14,8 @@ mod act;
 mod ends;
 mod fault;
 mod same;
+#[cfg(test)]
+mod tests;
 
 pub use act::Act;
 pub use ends::partners;
