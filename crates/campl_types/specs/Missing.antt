@@ -73,7 +73,7 @@ heads w (s.Variable at x) column = IsOther ∷ []
 
 -- Rows that fit a head
 
-abbrev where_so : Bool → List Form → Option (List Form)
+abbrev pub where_so : Bool → List Form → Option (List Form)
 where_so b ps = if b then Some ps else None
 
 -- the patterns of the head's parts, where the pattern fits the head
@@ -128,7 +128,7 @@ abbrev pub all_open : List Form → Bool
 all_open [] = true
 all_open (p ∷ ps) = is_open p && all_open ps
 
-abbrev first_of : Row → List Form
+abbrev pub first_of : Row → List Form
 first_of [] = []
 first_of (p ∷ ps) = p ∷ []
 
@@ -165,8 +165,8 @@ abbrev pub missing_within : ℕ → World → List Row → List SeqType → Opti
 missing_within zero w = missing_by w (λ rows ts. Some (anythings (length ts)))
 missing_within (suc n) w = missing_by w (missing_within n w)
 
--- how many patterns there are besides variables and `_`: each head that is tried has fewer of them left,
--- so heads are tried inside heads no deeper
+-- how many patterns there are besides variables and `_`: each head that is tried leaves fewer of them, so
+-- heads are tried inside heads no deeper, and `missing` is `missing_by` of itself (proofs/MissingUnfolds)
 abbrev mutual
   pub weight : Form → ℕ
   weight Anything = 0
@@ -183,7 +183,7 @@ abbrev mutual
   weights none = 0
   weights (more p ps) = weight p + weights ps
 
-abbrev row_weight : Row → ℕ
+abbrev pub row_weight : Row → ℕ
 row_weight [] = 0
 row_weight (p ∷ ps) = weight p + row_weight ps
 

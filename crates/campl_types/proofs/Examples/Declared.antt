@@ -1,5 +1,5 @@
 -- Worked faults of names.
-use Rattle.std.proofs.Common.{◌≡◌, refl, ℕ, List, [], ◌∷◌, ◌++◌, Some, None, codes}
+use Rattle.std.proofs.Common.{◌≡◌, refl, ℕ, zero, suc, List, [], ◌∷◌, ◌++◌, Some, None, codes}
 use Rattle.campl_tree.specs.declared.place.Ident.{Ident}
 use Rattle.campl_tree.specs.declared.process.Binder.TheVariants as binder
 use Rattle.campl_tree.specs.declared.service.Side.TheVariants.{Input, Output}
@@ -77,3 +77,50 @@ terminal-as-input = refl
 
 one-service : services_of (world_of (speaks (b.Halt (place 3 9) None) ∷ [])) ≡ record { name = codes "console"; side = Input } ∷ []
 one-service = refl
+
+-- the orders of judging
+
+-- data A where
+--     Same
+-- protocol P => S where
+--     Same :: TopBot => S
+-- declares one constructor in two kinds of declarations
+across-kinds : first_fault (data_decl 1 (ident 1 6 (codes "A")) [] (constructor (ident 2 5 (codes "Same")) [] ∷ []) ∷ protocol_decl 3 (ident 3 10 (codes "P")) [] (ident 3 15 (codes "S")) (line (ident 4 5 (codes "Same")) c.TopBot (ident 4 23 (codes "S")) ∷ []) ∷ silent_run 5 ∷ []) ≡ Some (Twice (place 4 5) (codes "Same"))
+across-kinds = refl
+
+-- a name that is declared again comes before one that isn't known, wherever they stand
+twice-first : first_fault (data_decl 1 (ident 1 6 (codes "A")) [] (constructor (ident 2 5 (codes "Of")) (named 2 8 (codes "Unknown") ∷ []) ∷ []) ∷ data_decl 3 (ident 3 6 (codes "A")) [] (constructor (ident 4 5 (codes "Other")) [] ∷ []) ∷ silent_run 5 ∷ []) ≡ Some (Twice (place 3 6) (codes "A"))
+twice-first = refl
+
+-- an unknown name comes before there being no process `run`
+unknown-before-run : name_faults (data_decl 1 (ident 1 6 (codes "A")) [] (constructor (ident 2 5 (codes "Of")) (named 2 8 (codes "Unknown") ∷ []) ∷ []) ∷ []) ≡ Unknown (place 2 8) (codes "Unknown") ∷ NoRun (place 1 1) ∷ []
+unknown-before-run = refl
+
+-- a constructor of a data type is no choice of a protocol, and `Other` is known nowhere
+abbrev hputs : Ident → d.Decl
+hputs k = process 3 (codes "run") (protocol 3 15 (codes "Console") ∷ []) (ident 4 7 (codes "console") ∷ []) (b.Then (b.Hput (place 5 9) k (ident 5 22 (codes "console"))) (b.Halt (place 6 9) None))
+
+no-choice : first_fault (data_decl 1 (ident 1 6 (codes "A")) [] (constructor (ident 2 5 (codes "Of")) [] ∷ []) ∷ hputs (ident 5 14 (codes "Of")) ∷ []) ≡ Some (WrongKind (place 5 14) (codes "Of"))
+no-choice = refl
+
+unknown-choice : first_fault (hputs (ident 5 14 (codes "Other")) ∷ []) ≡ Some (Unknown (place 5 14) (codes "Other"))
+unknown-choice = refl
+
+-- a link's type without the argument of its protocol
+link-without-argument : first_fault (protocol_decl 1 (ident 1 10 (codes "Box")) (ident 1 14 (codes "a") ∷ []) (ident 1 20 (codes "S")) (line (ident 2 5 (codes "Give")) c.TopBot (ident 2 23 (codes "S")) ∷ []) ∷ process 3 (codes "run") [] [] (b.Plug (place 4 12) (record { name = ident 4 17 (codes "c"); channel_type = protocol 4 22 (codes "Box") } ∷ []) b.no_parts) ∷ []) ≡ Some (TypeArguments (place 4 22) 0 1)
+link-without-argument = refl
+
+-- a type variable stands in no process
+variable-in-a-process : first_fault (process 1 (codes "run") (c.Put (s.Variable (place 1 19) (codes "a")) c.TopBot ∷ []) (ident 2 7 (codes "x") ∷ []) (b.Halt (place 2 12) None) ∷ []) ≡ Some (Unknown (place 1 19) (codes "a"))
+variable-in-a-process = refl
+
+-- 17 consoles are too many
+abbrev consoles : ℕ → List c.ChanType
+consoles zero = []
+consoles (suc n) = protocol 1 15 (codes "Console") ∷ consoles n
+
+sixteen : name_faults (process 1 (codes "run") (consoles 16) [] (b.Halt (place 2 9) None) ∷ []) ≡ []
+sixteen = refl
+
+seventeen : first_fault (process 1 (codes "run") (consoles 17) [] (b.Halt (place 2 9) None) ∷ []) ≡ Some (RunNotService (place 1 6))
+seventeen = refl

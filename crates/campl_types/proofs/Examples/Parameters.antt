@@ -8,7 +8,7 @@
 --         x : _ -> Just(x)
 --     fun size :: [a] -> Int where
 --         _ -> 0
-use Rattle.std.proofs.Common.{◌≡◌, refl, pos, List, [], ◌∷◌, Some, None, codes}
+use Rattle.std.proofs.Common.{◌≡◌, refl, sym, subst, pos, List, [], ◌∷◌, Some, None, codes}
 use Rattle.campl_tree.specs.Plain.SeqType as s
 use Rattle.campl_tree.specs.Plain.SeqType.{SeqType}
 use Rattle.campl_tree.specs.Plain.Pattern as p
@@ -16,7 +16,8 @@ use Rattle.campl_tree.specs.Plain.Expr as e
 use Rattle.campl_tree.specs.Plain.Decl as d
 use Rattle.campl_types.specs.Names.{Name}
 use Rattle.campl_types.specs.World.{World, world_of, type_parameters}
-use Rattle.campl_types.specs.Sequential.{IsFoundToHave, MayBeChecked, FunctionIsTyped}
+use Rattle.campl_types.specs.Sequential.{IsFoundToHave, MayBeChecked, FunctionIsTyped, PartsHaveTypes}
+use Rattle.campl_types.specs.Substitution.{filling}
 use Rattle.campl_types.proofs.Examples.Sources.{place, ident, named, data_decl, constructor}
 
 abbrev a : SeqType
@@ -81,3 +82,10 @@ first-found = (first, refl, (s.Int ∷ [], refl, refl, ((s.Int, refl, refl, tt),
 -- first([]) may be checked, since the result tells the parameter
 first-checked : MayBeChecked w [] (e.Call (place 9 1) (codes "first") (e.expr_then (e.List (place 9 7) e.no_exprs) e.no_exprs)) (maybe s.Int)
 first-checked = (first, refl, (s.Int ∷ [], refl, refl, ((s.Int, refl), tt), tt))
+
+-- size([]) isn't found, since no part tells the parameter
+not-found : (t : SeqType) → IsFoundToHave w [] (e.Call (place 9 1) (codes "size") (e.expr_then (e.List (place 9 6) e.no_exprs) e.no_exprs)) t → ⊥
+not-found t (f, i, (ts, l, r, parts, all)) = go f i parts
+  where
+    go : (g : d.FunctionDecl) → Some size ≡ Some g → PartsHaveTypes w [] (filling (type_parameters g) ts) [] g.parameters (e.expr_then (e.List (place 9 6) e.no_exprs) e.no_exprs) → ⊥
+    go g j p = let q : size ≡ g = cc j in let h : PartsHaveTypes w [] (filling (type_parameters size) ts) [] size.parameters (e.expr_then (e.List (place 9 6) e.no_exprs) e.no_exprs) = subst (λ (k : d.FunctionDecl). PartsHaveTypes w [] (filling (type_parameters k) ts) [] k.parameters (e.expr_then (e.List (place 9 6) e.no_exprs) e.no_exprs)) (sym q) p in h.0
