@@ -1,7 +1,7 @@
 -- Each name is read as its rule is: what proves the parser's function for it.
 use Rattle.std.proofs.Common.{◌≡◌, ℕ, List}
 use Rattle.campl_grammar.specs.Word.{Word}
-use Rattle.campl_grammar.specs.Names.{program, decls, decl, data_decl, protocol_decl, coprotocol_decl, fun_decl, proc_decl, parameters, cons, con, pcons, pcon, qcons, qcon, rows, row, prow, vars, var, names, idents, stypes, stype, grouped_type, type_arguments, ctypes, ctype, catom, put_type, get_type, neg_type, body, actions, action, put, get, hput, split, close, last, halt, hcase, fork, plug, race, choice, named, identity, process_call, hrows, hrow, branches, branch, links, link, parts, part, crows, crow, patterns, pattern, patom, constructor_pattern, list_pattern, simple_pattern, grouped_pattern, exprs, expr, if_expr, erows, erow, disjunction, conjunction, cmp, comparison, joined, sum, terms, addition, prod, factors, multiplication, unary, atom, code, character, constructor, listed, simple, variable, grouped}
+use Rattle.campl_grammar.specs.Names.{program, decls, decl, data_decl, protocol_decl, coprotocol_decl, fun_decl, proc_decl, parameters, cons, con, pcons, pcon, qcons, qcon, rows, row, prow, vars, var, names, idents, stypes, stype, grouped_type, type_arguments, ctypes, ctype, catom, named_type, grouped_ctype, put_type, get_type, neg_type, body, actions, action, put, get, hput, split, close, last, halt, hcase, fork, plug, race, choice, named, identity, process_call, hrows, hrow, branches, branch, links, link, parts, part, crows, crow, patterns, pattern, patom, constructor_pattern, list_pattern, simple_pattern, grouped_pattern, exprs, expr, if_expr, erows, erow, disjunction, conjunction, cmp, comparison, joined, sum, terms, addition, prod, factors, multiplication, unary, atom, code, character, constructor, listed, simple, variable, grouped}
 use Rattle.campl_grammar.specs.Rules.{rule, read, piece}
 use Rattle.campl_grammar.proofs.Exactness.{reads}
 
@@ -91,6 +91,12 @@ reads_ctype = reads ctype
 
 pub reads_catom : (d : ℕ) (ts : List Word) → read catom d ts ≡ piece (rule catom) d ts
 reads_catom = reads catom
+
+pub reads_named_type : (d : ℕ) (ts : List Word) → read named_type d ts ≡ piece (rule named_type) d ts
+reads_named_type = reads named_type
+
+pub reads_grouped_ctype : (d : ℕ) (ts : List Word) → read grouped_ctype d ts ≡ piece (rule grouped_ctype) d ts
+reads_grouped_ctype = reads grouped_ctype
 
 pub reads_put_type : (d : ℕ) (ts : List Word) → read put_type d ts ≡ piece (rule put_type) d ts
 reads_put_type = reads put_type

@@ -2,3 +2,4 @@ pub mod Passing
 pub mod Exactness
 pub mod ByRule
 pub mod Braces
+mod Examples

@@ -14,7 +14,7 @@ use Rattle.campl_grammar.specs.contracts.kind.Kind.{the_type}
 use Rattle.campl_grammar.specs.declared.kind.Kind.{Kind}
 use Rattle.campl_grammar.specs.declared.kind.Kind.TheVariants as k
 use Rattle.campl_grammar.specs.Word.{Word, same, terminals, nowhere}
-use Rattle.campl_grammar.specs.Names.{Name, program, decls, decl, data_decl, protocol_decl, coprotocol_decl, fun_decl, proc_decl, parameters, cons, con, pcons, pcon, qcons, qcon, rows, row, prow, vars, var, names, idents, stypes, stype, grouped_type, type_arguments, ctypes, ctype, catom, put_type, get_type, neg_type, body, actions, action, put, get, hput, split, close, last, halt, hcase, fork, plug, race, choice, named, identity, process_call, hrows, hrow, branches, branch, links, link, parts, part, crows, crow, patterns, pattern, patom, constructor_pattern, list_pattern, simple_pattern, grouped_pattern, exprs, expr, if_expr, erows, erow, disjunction, conjunction, cmp, comparison, joined, sum, terms, addition, prod, factors, multiplication, unary, atom, code, character, constructor, listed, simple, variable, grouped}
+use Rattle.campl_grammar.specs.Names.{Name, program, decls, decl, data_decl, protocol_decl, coprotocol_decl, fun_decl, proc_decl, parameters, cons, con, pcons, pcon, qcons, qcon, rows, row, prow, vars, var, names, idents, stypes, stype, grouped_type, type_arguments, ctypes, ctype, catom, named_type, grouped_ctype, put_type, get_type, neg_type, body, actions, action, put, get, hput, split, close, last, halt, hcase, fork, plug, race, choice, named, identity, process_call, hrows, hrow, branches, branch, links, link, parts, part, crows, crow, patterns, pattern, patom, constructor_pattern, list_pattern, simple_pattern, grouped_pattern, exprs, expr, if_expr, erows, erow, disjunction, conjunction, cmp, comparison, joined, sum, terms, addition, prod, factors, multiplication, unary, atom, code, character, constructor, listed, simple, variable, grouped}
 use Rattle.campl_grammar.specs.Tables.{tables}
 use Rattle.campl_grammar.specs.Rules.{Value, rule, limit, IsProgram, read, piece}
 
@@ -138,6 +138,8 @@ passes type_arguments = refl
 passes ctypes = refl
 passes ctype = refl
 passes catom = refl
+passes named_type = refl
+passes grouped_ctype = refl
 passes put_type = refl
 passes get_type = refl
 passes neg_type = refl

@@ -29,6 +29,8 @@ pub data Name : Type 0 where
   ctypes : Name
   ctype : Name
   catom : Name
+  named_type : Name
+  grouped_ctype : Name
   put_type : Name
   get_type : Name
   neg_type : Name

@@ -44,7 +44,7 @@ use Rattle.campl_grammar.specs.declared.kind.Kind.TheVariants as k
 use Rattle.campl_grammar.specs.Word.{Word, ident_of, terminals}
 use Rattle.campl_grammar.specs.Trees as t
 use Rattle.campl_grammar.specs.Tables.{tables}
-use Rattle.campl_grammar.specs.Names.{Name, program, decls, decl, data_decl, protocol_decl, coprotocol_decl, fun_decl, proc_decl, parameters, cons, con, pcons, pcon, qcons, qcon, rows, row, prow, vars, var, names, idents, stypes, stype, grouped_type, type_arguments, ctypes, ctype, catom, put_type, get_type, neg_type, body, actions, action, put, get, hput, split, close, last, halt, hcase, fork, plug, race, choice, named, identity, process_call, hrows, hrow, branches, branch, links, link, parts, part, crows, crow, patterns, pattern, patom, constructor_pattern, list_pattern, simple_pattern, grouped_pattern, exprs, expr, if_expr, erows, erow, disjunction, conjunction, cmp, comparison, joined, sum, terms, addition, prod, factors, multiplication, unary, atom, code, character, constructor, listed, simple, variable, grouped}
+use Rattle.campl_grammar.specs.Names.{Name, program, decls, decl, data_decl, protocol_decl, coprotocol_decl, fun_decl, proc_decl, parameters, cons, con, pcons, pcon, qcons, qcon, rows, row, prow, vars, var, names, idents, stypes, stype, grouped_type, type_arguments, ctypes, ctype, catom, named_type, grouped_ctype, put_type, get_type, neg_type, body, actions, action, put, get, hput, split, close, last, halt, hcase, fork, plug, race, choice, named, identity, process_call, hrows, hrow, branches, branch, links, link, parts, part, crows, crow, patterns, pattern, patom, constructor_pattern, list_pattern, simple_pattern, grouped_pattern, exprs, expr, if_expr, erows, erow, disjunction, conjunction, cmp, comparison, joined, sum, terms, addition, prod, factors, multiplication, unary, atom, code, character, constructor, listed, simple, variable, grouped}
 
 -- what the value of each name is
 abbrev pub Value : Name → Type 0
@@ -77,6 +77,8 @@ Value type_arguments = List SeqType
 Value ctypes = List ChanType
 Value ctype = ChanType
 Value catom = ChanType
+Value named_type = ChanType
+Value grouped_ctype = ChanType
 Value put_type = ChanType
 Value get_type = ChanType
 Value neg_type = ChanType
@@ -178,9 +180,13 @@ in_parens a = k.LeftParen ▸ deeper (a ◂ k.RightParen)
 abbrev pub in_brackets : {A : Type 0} → Part A → Part A
 in_brackets a = k.LeftBracket ▸ deeper (a ◂ k.RightBracket)
 
+-- what stands behind a line: ";" and the lines `more`, or nothing
+abbrev pub behind : {A : Type 0} → Part (List A) → Part (List A)
+behind more = alt (k.Semicolon ▸ more) (pure [])
+
 -- a { ";" a }, where `more` is the name of this list; nothing is nested
 abbrev pub in_lines : {A : Type 0} → Part A → Part (List A) → Part (List A)
-in_lines a more = grammar.list a (alt (k.Semicolon ▸ more) (pure []))
+in_lines a more = grammar.list a (behind more)
 
 -- a { "," a }; what stands behind a comma is nested one deeper
 abbrev pub in_commas : {A : Type 0} → Part A → Part (List A) → Part (List A)
@@ -278,8 +284,10 @@ rule catom =
     (alt (nt get_type)
     (alt (nt neg_type)
     (alt (gives k.TopBot c.TopBot)
-    (alt (seq t.named_channel_of (tok k.Upper) (nt type_arguments))
-    (in_parens (nt ctype))))))
+    (alt (nt named_type)
+    (nt grouped_ctype)))))
+rule named_type = seq t.named_channel_of (tok k.Upper) (nt type_arguments)
+rule grouped_ctype = in_parens (nt ctype)
 rule put_type = k.PutType ▸ in_parens (seq c.Put (nt stype) (k.Bar ▸ nt ctype))
 rule get_type = k.GetType ▸ in_parens (seq c.Get (nt stype) (k.Bar ▸ nt ctype))
 rule neg_type = c.Neg <$> k.NegType ▸ in_parens (nt ctype)

@@ -3,7 +3,7 @@ use Rattle.std.specs.Prelude.{ℕ, Bool, true, false, List, [], ◌∷◌}
 use Rattle.campl_gram.specs.Reading.{Tables}
 use Rattle.campl_grammar.specs.declared.kind.Kind.{Kind}
 use Rattle.campl_grammar.specs.declared.kind.Kind.TheVariants as k
-use Rattle.campl_grammar.specs.Names.{Name, program, decls, decl, data_decl, protocol_decl, coprotocol_decl, fun_decl, proc_decl, parameters, cons, con, pcons, pcon, qcons, qcon, rows, row, prow, vars, var, names, idents, stypes, stype, grouped_type, type_arguments, ctypes, ctype, catom, put_type, get_type, neg_type, body, actions, action, put, get, hput, split, close, last, halt, hcase, fork, plug, race, choice, named, identity, process_call, hrows, hrow, branches, branch, links, link, parts, part, crows, crow, patterns, pattern, patom, constructor_pattern, list_pattern, simple_pattern, grouped_pattern, exprs, expr, if_expr, erows, erow, disjunction, conjunction, cmp, comparison, joined, sum, terms, addition, prod, factors, multiplication, unary, atom, code, character, constructor, listed, simple, variable, grouped}
+use Rattle.campl_grammar.specs.Names.{Name, program, decls, decl, data_decl, protocol_decl, coprotocol_decl, fun_decl, proc_decl, parameters, cons, con, pcons, pcon, qcons, qcon, rows, row, prow, vars, var, names, idents, stypes, stype, grouped_type, type_arguments, ctypes, ctype, catom, named_type, grouped_ctype, put_type, get_type, neg_type, body, actions, action, put, get, hput, split, close, last, halt, hcase, fork, plug, race, choice, named, identity, process_call, hrows, hrow, branches, branch, links, link, parts, part, crows, crow, patterns, pattern, patom, constructor_pattern, list_pattern, simple_pattern, grouped_pattern, exprs, expr, if_expr, erows, erow, disjunction, conjunction, cmp, comparison, joined, sum, terms, addition, prod, factors, multiplication, unary, atom, code, character, constructor, listed, simple, variable, grouped}
 
 -- which may have no word
 abbrev pub nul : Name → Bool
@@ -36,6 +36,8 @@ nul type_arguments = true
 nul ctypes = false
 nul ctype = false
 nul catom = false
+nul named_type = false
+nul grouped_ctype = false
 nul put_type = false
 nul get_type = false
 nul neg_type = false
@@ -131,6 +133,8 @@ starts type_arguments = k.LeftParen ∷ []
 starts ctypes = k.PutType ∷ k.GetType ∷ k.NegType ∷ k.TopBot ∷ k.Upper ∷ k.LeftParen ∷ []
 starts ctype = k.PutType ∷ k.GetType ∷ k.NegType ∷ k.TopBot ∷ k.Upper ∷ k.LeftParen ∷ []
 starts catom = k.PutType ∷ k.GetType ∷ k.NegType ∷ k.TopBot ∷ k.Upper ∷ k.LeftParen ∷ []
+starts named_type = k.Upper ∷ []
+starts grouped_ctype = k.LeftParen ∷ []
 starts put_type = k.PutType ∷ []
 starts get_type = k.GetType ∷ []
 starts neg_type = k.NegType ∷ []
@@ -226,6 +230,8 @@ conts type_arguments = k.LeftParen ∷ []
 conts ctypes = k.Comma ∷ k.Par ∷ k.Tensor ∷ k.LeftParen ∷ []
 conts ctype = k.LeftParen ∷ k.Par ∷ k.Tensor ∷ []
 conts catom = k.LeftParen ∷ []
+conts named_type = k.LeftParen ∷ []
+conts grouped_ctype = []
 conts put_type = []
 conts get_type = []
 conts neg_type = []
@@ -321,6 +327,8 @@ rank type_arguments = 0
 rank ctypes = 3
 rank ctype = 2
 rank catom = 1
+rank named_type = 0
+rank grouped_ctype = 0
 rank put_type = 0
 rank get_type = 0
 rank neg_type = 0
@@ -416,6 +424,8 @@ tall type_arguments = 0
 tall ctypes = 2
 tall ctype = 1
 tall catom = 0
+tall named_type = 1
+tall grouped_ctype = 2
 tall put_type = 3
 tall get_type = 3
 tall neg_type = 2
