@@ -1,0 +1,6 @@
+pub mod Inside
+pub mod Braced
+pub mod Taken
+pub mod Cuts
+pub mod Braces
+pub mod Spelled
