@@ -1,0 +1,4 @@
+mod Told
+pub mod Cases
+pub mod Expressions
+pub mod Starts
