@@ -82,44 +82,149 @@ fn shows_what_has_no_picture(rt: HostRuntime) -> Result<(), Fail> {
     Ok(())
 }
 
+// The source is refused with this line, and nothing else is written or run.
+fn is_refused<R: Threads + Sync>(
+    rt: &R,
+    alloc: Global,
+    source: &str,
+    line: &str,
+) -> Result<bool, Fail> {
+    let answer = run_source(rt, alloc, source.as_bytes())?;
+    Ok(
+        answer.report.status == 3
+            && answer.err.bytes() == line.as_bytes()
+            && answer.out.bytes().is_empty()
+            && answer.report.ended.is_none()
+            && answer.report.journal.entries().is_empty(),
+    )
+}
+
 #[test]
-fn refuses_sources(rt: HostRuntime) -> Result<(), Fail> {
-    let not_built = "campl: E60 NotBuilt at 1:1\n";
-    let table: [(&[u8], &str); 5] = [
+fn refuses_bytes_that_are_no_text(rt: HostRuntime) -> Result<(), Fail> {
+    let table: [(&[u8], &str); 2] = [
         (b"\xFF", "campl: source isn't UTF-8 at byte 0\n"),
         (b"proc\xC3", "campl: source isn't UTF-8 at byte 4\n"),
-        (b"", not_built),
-        (b"proc run :: | => where\n    | => -> halt\n", not_built),
-        (
-            b"proc run :: | Console => where\n    | c => -> do\n        hput ConsoleGet on c\n",
-            not_built,
-        ),
     ];
     for (source, line) in table {
         let answer = run_source(&rt, rt.alloc(), source)?;
         assert_eq!(rt; answer.report.status, 3, "of {source:?}");
         assert!(rt; answer.err.bytes() == line.as_bytes(), "of {source:?}");
-        assert!(rt; answer.out.bytes().is_empty());
-        assert_eq!(rt; answer.report.ended, None);
-        assert!(rt; answer.report.journal.entries().is_empty());
     }
     Ok(())
 }
 
-// So many spaces.
-fn spaces(alloc: Global, count: usize) -> Result<Vec<u8>, AllocError> {
-    vec![in alloc; b' '; count]
+#[test]
+fn refuses_sources_with_faults(rt: HostRuntime) -> Result<(), Fail> {
+    let table = [
+        (
+            "proc run :: | Console => where\n    | console => -> do\n        hput ConsolePut on console\n        put \"Hel",
+            "campl: E02 OpenString at 4:13\n",
+        ),
+        (
+            "proc run :: | Console => where\n    | console => -> do\n",
+            "campl: E07 BadColumn at 3:1\n",
+        ),
+        (
+            "proc run :: | Console => where\n    | console => -> do\n\thput ConsolePut on console\n",
+            "campl: E06 Tab at 3:1\n",
+        ),
+        (
+            "proc run | => where\n    | => -> halt\n",
+            "campl: E10 Unexpected at 1:10\n",
+        ),
+        ("proc run | => where", "campl: E07 BadColumn at 1:20\n"),
+        (
+            "proc run :: | Console => where\n    | console => -> do\n        hput ConsolePut on console\n        put \"He\\qllo\" on console\n",
+            "campl: E03 BadEscape at 4:16\n",
+        ),
+    ];
+    for (source, line) in table {
+        assert!(rt; is_refused(&rt, rt.alloc(), source, line)?, "of {source}");
+    }
+    Ok(())
+}
+
+#[test]
+fn refuses_what_does_not_run_yet(rt: HostRuntime) -> Result<(), Fail> {
+    let line = "campl: E60 NotBuilt at 1:1\n";
+    for source in [
+        "",
+        "proc run :: | => where\n    | => -> halt\n",
+        "proc run :: | Console => where\n    | c => -> do\n        hput ConsoleGet on c\n        halt c\n",
+        "proc run :: | Console => where\n    | c => -> do\n        hput ConsoleClose on c\n        halt d\n",
+        "proc run :: | Console => where\n    | c' => -> do\n        hput ConsoleClose on c'\n        halt c'\n",
+    ] {
+        assert!(rt; is_refused(&rt, rt.alloc(), source, line)?, "of {source}");
+    }
+    Ok(())
+}
+
+// The greeting with its text in so many parentheses, and so many times ` ++ ""` behind it.
+fn greeting(alloc: Global, parentheses: usize, joined: usize) -> Result<String, AllocError> {
+    let mut source = String::from_str(
+        alloc,
+        "proc run :: | Console => where\n    | console => -> do\n        hput ConsolePut on console\n        put ",
+    )?;
+    for _ in 0..parentheses {
+        source.push_str("(")?;
+    }
+    source.push_str("\"Hello\"")?;
+    for _ in 0..joined {
+        source.push_str(" ++ \"\"")?;
+    }
+    for _ in 0..parentheses {
+        source.push_str(")")?;
+    }
+    source.push_str(" on console\n        hput ConsoleClose on console\n        halt console\n")?;
+    Ok(source)
+}
+
+#[test]
+fn counts_nesting(rt: HostRuntime) -> Result<(), Fail> {
+    let shallow = greeting(rt.alloc(), 197, 0)?;
+    let answer = run_source(&rt, rt.alloc(), shallow.as_bytes())?;
+    assert!(rt; answer.out.bytes() == HELLO_OUTPUT.as_bytes());
+    for (parentheses, joined, line) in [
+        (198, 0, "campl: E11 TooDeep at 4:211\n"),
+        (0, 197, "campl: E60 NotBuilt at 1:1\n"),
+        (0, 198, "campl: E11 TooDeep at 4:1206\n"),
+    ] {
+        let source = greeting(rt.alloc(), parentheses, joined)?;
+        assert!(rt;
+            is_refused(&rt, rt.alloc(), source.as_str(), line)?,
+            "{line}"
+        );
+    }
+    Ok(())
+}
+
+#[test]
+fn prints_escapes(rt: HostRuntime) -> Result<(), Fail> {
+    let source =
+        "proc run :: | Console => where\n | c => -> do\n  hput ConsolePut on c\n  put \"a\\n\\u{e9}\\\"\" on c\n  hput ConsoleClose on c\n  halt c";
+    let answer = run_source(&rt, rt.alloc(), source.as_bytes())?;
+    let want = "channel c\n> a\\n\u{e9}\"\nclosed\nfinished after 7 steps\n";
+    assert!(rt; answer.out.bytes() == want.as_bytes());
+    Ok(())
+}
+
+// So many times one byte.
+fn repeated(alloc: Global, byte: u8, count: usize) -> Result<Vec<u8>, AllocError> {
+    vec![in alloc; byte; count]
 }
 
 #[test]
 fn refuses_long_sources(rt: HostRuntime) -> Result<(), Fail> {
-    let longest = spaces(rt.alloc(), 1_048_576)?;
+    let longest = repeated(rt.alloc(), b' ', 1_048_576)?;
     let answer = run_source(&rt, rt.alloc(), &longest)?;
     assert!(rt; answer.err.bytes() == b"campl: E60 NotBuilt at 1:1\n".as_slice());
-    let longer = spaces(rt.alloc(), 1_048_577)?;
+    let longer = repeated(rt.alloc(), b' ', 1_048_577)?;
     let answer = run_source(&rt, rt.alloc(), &longer)?;
     assert_eq!(rt; answer.report.status, 3);
     assert!(rt; answer.err.bytes() == b"campl: source is longer than 1048576 bytes\n".as_slice());
+    let open = repeated(rt.alloc(), b'(', 1_048_576)?;
+    let answer = run_source(&rt, rt.alloc(), &open)?;
+    assert!(rt; answer.err.bytes() == b"campl: E10 Unexpected at 1:1\n".as_slice());
     Ok(())
 }
 

@@ -1,10 +1,8 @@
-pub mod Examples
-pub mod Runs
-pub mod Lines
-pub mod Commands
-pub mod Limits
 pub mod Printing
 pub mod Depths
 pub mod Streams
 pub mod OutputLines
 pub mod TopCall
+pub mod Phases
+pub mod Shapes
+pub mod Limits

@@ -1,25 +1,24 @@
 -- The journal of a printing source is a run from its start, which finishes with the texts written down.
-use Rattle.std.proofs.Common.{◌≡◌, ℕ, suc, ◌≤◌, Bool, true, false, List, [], ◌∷◌, ◌++◌, inr, refl, sym, ap, subst, ◌∙◌, Option, Some, None, if◌then◌else◌, append_assoc, nat_le, arith}
+use Rattle.std.proofs.Common.{◌≡◌, ℕ, suc, Bool, true, false, List, [], ◌∷◌, ◌++◌, inr, refl, sym, ap, subst, Option, Some, None, if◌then◌else◌, append_assoc, nat_le, arith}
 use Rattle.std.proofs.Math.Path.{fun_ext}
-use Rattle.std.specs.Prelude.{map, codes, chars, ◌&&◌, eqb}
+use Rattle.std.specs.Prelude.{map, codes, eqb}
 use Rattle.std.specs.List.{AllByRecursion}
 use Rattle.std.proofs.lemmas.List.Elements.{recursion_from_All}
-use Rattle.campl_value.specs.Tree.{Tree, depth_of}
-use Rattle.campl_value.specs.Text.{text_of, chars_of, chars_of_text}
-use Rattle.campl_machine.specs.Names.{End, Who, Process, Service, Path, same_end, same_who, same_path}
-use Rattle.campl_machine.specs.Machine.{Config, update, both_ways, sent, taken, rest_of, moved, looked}
-use Rattle.campl_meaning.specs.Commands.{Name, same_name, Source, Body, Then, Ends, Put, HPut, Halt, Text, Console, constructor_number}
+use Rattle.campl_value.specs.Tree.{depth_of}
+use Rattle.campl_value.specs.Text.{text_of, chars_of_text}
+use Rattle.campl_machine.specs.Names.{End, Who, Process, Service, same_end, same_who}
+use Rattle.campl_machine.specs.Machine.{update, both_ways, sent, taken, rest_of, moved, looked}
+use Rattle.campl_meaning.specs.Commands.{Name, same_name, Body, Then, Ends, Put, HPut, Halt, Text, Console, constructor_number}
 use Rattle.campl_value.specs.declared.value.TheConstants.{MAX_DEPTH}
-use Rattle.campl_meaning.specs.States.{Message, Word, Pick, State, Runs, Serves, Running, Serving, Doing, Held, held, Phase, AwaitsPick, AwaitsText, Closed, Transcript, Record, Took, WasClosed}
-use Rattle.campl_meaning.specs.Services.{noting}
-use Rattle.campl_meaning.specs.Reductions.{Configuration, Event, Reduces, reduce, reduce_state}
+use Rattle.campl_meaning.specs.States.{Message, Word, Pick, State, Runs, Serves, Serving, Doing, Phase, AwaitsPick, AwaitsText, Closed, Transcript, Took, WasClosed}
+use Rattle.campl_meaning.specs.Reductions.{Configuration, Event, Reduces, reduce_state}
 use Rattle.campl_meaning.specs.Start.{near, far, start}
 use Rattle.campl_meaning.specs.Ends.{IsEnd, Finished, IsEnabled, HasNoProcess, transcript_of}
 use Rattle.campl_meaning.specs.Kinds as k
-use Rattle.campl_meaning.specs.Journals.{Entry, Naming, naming_at_start, IsRunOf, IsRunFromStart, Says, Times, IsWeighed, steps_of}
-use Rattle.campl_cli.specs.Form.{Prints, IsText, IsFine}
+use Rattle.campl_meaning.specs.Journals.{Entry, Naming, naming_at_start, IsRunOf, IsRunFromStart, Says, Times}
+use Rattle.campl_cli.specs.Form.{Prints, IsShort, IsFine}
 use Rattle.campl_cli.proofs.Depths.{text_fits}
-use Rattle.campl_cli.specs.Printing.{printing, source_of, sends, takes, serves, journal_of, sent_pick, sent_word, took_pick, took_word, halted}
+use Rattle.campl_cli.specs.Printing.{printing, source_of, sends, serves, journal_of, sent_pick, sent_word, took_pick, took_word, halted}
 
 -- a number, and a name, is the same as itself
 eqb-refl : (n : ℕ) → eqb n n ≡ true
@@ -283,24 +282,24 @@ module _ (name : Name) (body : Body) where
       λ i. record { nodes = first.nodes; partner = first.partner; owed = o i }
 
 -- the texts of a source of the form aren't too long
-fits : (name : Name) (body : Body) (texts : List (List ℕ)) → AllByRecursion IsText texts → AllFit name body (map chars texts)
+fits : (name : Name) (body : Body) (texts : List (List ℕ)) → AllByRecursion IsShort texts → AllFit name body texts
 fits name body [] fine = tt
-fits name body (text ∷ texts) (fine, more) = (text_fits (chars text) fine.short, fits name body texts more)
+fits name body (text ∷ texts) (fine, more) = (text_fits text fine, fits name body texts more)
 
 -- what the run of the source of these prints comes to: it is finished, and the service has written the texts down
 pub record Comes (p : Prints) (entries : List Entry) : Type 0 where
   pub last : Configuration
   pub run : IsRunFromStart (source_of p) [] entries last
   pub end : (steps budget : ℕ) → IsEnd last steps budget Finished
-  pub transcript : transcript_of last 0 ≡ map Took (map chars p.texts) ++ (WasClosed ∷ [])
+  pub transcript : transcript_of last 0 ≡ map Took p.texts ++ (WasClosed ∷ [])
 
 -- the journal of a source of the form is a run from its start
-pub printing-runs : (p : Prints) (entries : List Entry) → IsFine p → entries ≡ journal_of (map chars p.texts) → Comes p entries
+pub printing-runs : (p : Prints) (entries : List Entry) → IsFine p → entries ≡ journal_of p.texts → Comes p entries
 printing-runs p entries fine same =
-    let name : Name = chars p.console in
-    let texts : List (List ℕ) = map chars p.texts in
+    let name : Name = p.console in
+    let texts : List (List ℕ) = p.texts in
     let body : Body = printing name texts in
-    let fit : AllFit name body texts = fits name body p.texts (recursion_from_All IsText p.texts fine.texts) in
+    let fit : AllFit name body texts = fits name body p.texts (recursion_from_All IsShort p.texts fine.texts) in
     let run : IsRunOf (naming name body) (start (source_of p) []) (journal_of texts) (naming name body) (at_last name body texts) =
     subst (λ c. IsRunOf (naming name body) c (journal_of texts) (naming name body) (at_last name body texts)) (sym (start-at name body texts)) (whole-run name body texts fit) in
     record {

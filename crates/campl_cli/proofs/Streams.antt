@@ -1,5 +1,5 @@
 -- What a failed write leaves.
-use Rattle.std.proofs.Common.{◌≡◌, ℕ, List, take, drop, ◌++◌, Option, ◌∙◌}
+use Rattle.std.proofs.Common.{◌≡◌, ℕ, List, take, drop, ◌∙◌}
 use Rattle.std.proofs.lemmas.List.{take-append-drop}
 use Rattle.std.specs.Io.KnownBytes.{Appends}
 use Rattle.campl_text.specs.Counts.{Rose}

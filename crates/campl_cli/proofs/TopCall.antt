@@ -1,9 +1,8 @@
 -- The four ways in which the command ends.
-use Rattle.std.proofs.Common.{◌≡◌, ◌<◌, ℕ, List, [], ◌∷◌, Option, Some, ◌⊎◌, inl, inr, ap, ap₂, sym, subst, ◌∙◌, map, refl, length, get_or}
-use Rattle.std.specs.Prelude.{All, chars, string_bytes}
+use Rattle.std.proofs.Common.{◌≡◌, ◌<◌, ℕ, List, [], ◌∷◌, inl, inr, ap, ap₂, sym, subst, ◌∙◌, map}
+use Rattle.std.specs.Prelude.{All, string_bytes}
 use Rattle.std.proofs.lemmas.List.{length-map}
 use Rattle.std.proofs.Math.ListN.{get_or-map}
-use Rattle.campl_meaning.specs.Reductions.{Configuration}
 use Rattle.campl_meaning.specs.States.{Transcript}
 use Rattle.campl_meaning.specs.Ends as e
 use Rattle.campl_meaning.specs.Output.{output_of}
@@ -13,9 +12,9 @@ use Rattle.campl_cli.specs.declared.refusal.Refusal.{Refusal}
 use Rattle.campl_cli.specs.declared.refusal.Refusal.TheVariants.{OutOfMemory}
 use Rattle.campl_cli.specs.declared.report.Report.{Report}
 use Rattle.campl_cli.specs.Form.{Prints}
-use Rattle.campl_cli.specs.Refusals.{Files, IsAccepted, IsDue, status_of, line_of}
+use Rattle.campl_cli.specs.Refusals.{Files, IsAccepted, IsDue}
 use Rattle.campl_cli.specs.Performance.{IsPerformance, IsPrinted}
-use Rattle.campl_cli.specs.Answer.{Stream, Had, HadNothing, HasRun, IsAnswer, Ran, CouldNotPrint, WasRefused, CouldNotTell, IsTold, IsRefused, FailedIn, printed, step_budget}
+use Rattle.campl_cli.specs.Answer.{Stream, Had, HadNothing, HasRun, IsAnswer, IsTold, IsRefused, FailedIn, printed, step_budget}
 use Rattle.campl_cli.proofs.Printing.{Comes, printing-runs}
 
 -- what holds of each f x holds of each x behind f
@@ -38,7 +37,7 @@ module _ (words : List (List ℕ)) (files : Files) (out err : Stream) (report : 
 
     output_is : string_bytes performance.output ≡ printed p report comes.last
     output_is =
-        done.output ∙ ap₂ (λ (transcript : Transcript) (steps : ℕ). output_of ((chars p.console, transcript) ∷ []) e.Finished [] steps) (sym comes.transcript) (sym told.steps)
+        done.output ∙ ap₂ (λ (transcript : Transcript) (steps : ℕ). output_of ((p.console, transcript) ∷ []) e.Finished [] steps) (sym comes.transcript) (sym told.steps)
 
   pub answers_run : (p : Prints) (performance : Performance) → IsAccepted words files p → IsPerformance p performance → IsPrinted performance out err report → IsAnswer words files out err report
   answers_run p performance accepted done told = elim told.written [

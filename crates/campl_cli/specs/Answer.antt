@@ -1,5 +1,5 @@
 -- What the command answers, and what it has written by then.
-use Rattle.std.specs.Prelude.{◌≡◌, ◌≢◌, ℕ, ◌⊎◌, List, [], ◌∷◌, ◌++◌, Option, Some, None, chars}
+use Rattle.std.specs.Prelude.{◌≡◌, ◌≢◌, ℕ, ◌⊎◌, List, [], ◌∷◌, ◌++◌, Option, Some, None}
 use Rattle.std.specs.Io.KnownBytes.{Appends}
 use Rattle.campl_text.specs.Counts.{Rose}
 use Rattle.campl_meaning.specs.Reductions.{Configuration}
@@ -62,7 +62,7 @@ pub record HasNoRun (report : Report) : Type 0 where
 
 -- what a run prints that ends here
 abbrev pub printed : Prints → Report → Configuration → List ℕ
-printed p report last = output_of ((chars p.console, transcript_of last 0) ∷ []) e.Finished [] report.steps
+printed p report last = output_of ((p.console, transcript_of last 0) ∷ []) e.Finished [] report.steps
 
 -- it ran, and its output is written
 pub record Ran (words : List (List ℕ)) (files : Files) (out err : Stream) (report : Report) : Type 0 where

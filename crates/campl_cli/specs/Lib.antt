@@ -1,5 +1,6 @@
-pub mod Pieces
 pub mod Form
+pub mod Faults
+pub mod Source
 pub mod Printing
 pub mod Words
 pub mod Refusals

@@ -1,5 +1,5 @@
 -- What a run did and prints, before any of it is written.
-use Rattle.std.specs.Prelude.{◌≡◌, ℕ, ◌⊎◌, List, [], ◌∷◌, ◌++◌, Some, map, chars, string_bytes}
+use Rattle.std.specs.Prelude.{◌≡◌, ◌⊎◌, [], ◌∷◌, ◌++◌, Some, map, string_bytes}
 use Rattle.campl_meaning.specs.States.{Took, WasClosed}
 use Rattle.campl_meaning.specs.Ends as e
 use Rattle.campl_meaning.specs.Output.{output_of}
@@ -15,9 +15,9 @@ use Rattle.campl_cli.specs.Answer.{Stream, Had, HadNothing, HadOrFailed, FailedI
 -- the journal of the run of these prints, and their output
 pub record IsPerformance (p : Prints) (performance : Performance) : Type 0 where
   pub fine : IsFine p
-  pub journal : plain_entries performance.journal.entries ≡ journal_of (map chars p.texts)
+  pub journal : plain_entries performance.journal.entries ≡ journal_of p.texts
   pub output : string_bytes performance.output
-      ≡ output_of ((chars p.console, map Took (map chars p.texts) ++ (WasClosed ∷ [])) ∷ []) e.Finished [] (weight_of performance.journal.entries)
+      ≡ output_of ((p.console, map Took p.texts ++ (WasClosed ∷ [])) ∷ []) e.Finished [] (weight_of performance.journal.entries)
 
 -- the output is written, or couldn't be, and the run is reported
 pub record IsPrinted (performance : Performance) (out err : Stream) (report : Report) : Type 0 where

@@ -1,5 +1,5 @@
 -- The source that is of the form, and the journal of its run.
-use Rattle.std.specs.Prelude.{ℕ, List, [], ◌∷◌, ◌++◌, Option, Some, None, map, codes, chars}
+use Rattle.std.specs.Prelude.{ℕ, List, [], ◌∷◌, ◌++◌, Option, Some, None, map, codes}
 use Rattle.campl_value.specs.Tree.{Tree}
 use Rattle.campl_value.specs.Text.{text_of}
 use Rattle.campl_meaning.specs.Commands.{Name, Source, Body, Then, Ends, Put, HPut, Halt, Text, Console}
@@ -15,8 +15,8 @@ printing console (text ∷ texts) = Then (HPut (codes "ConsolePut") console) (Th
 -- a process with one Console, which prints these texts
 abbrev pub source_of : Prints → Source
 source_of p = record {
-  services = record { name = chars p.console; kind = Console } ∷ [];
-  body = printing (chars p.console) (map chars p.texts);
+  services = record { name = p.console; kind = Console } ∷ [];
+  body = printing p.console p.texts;
 }
 
 -- the end of the channel that `run` holds, and the service's

@@ -1,13 +1,15 @@
 -- Why the command ended before its run: each refusal with its status, its line, and when it is due.
-use Rattle.std.specs.Prelude.{◌≡◌, ◌≢◌, ℕ, ◌<◌, ◌≤◌, List, [], ◌∷◌, ◌++◌, Option, IfSome, codes, length, Err, Ok, ⊤}
+use Rattle.std.specs.Prelude.{ℕ, ◌<◌, List, [], ◌∷◌, ◌++◌, Option, IfSome, codes, length, Err, Ok, ⊤}
 use Rattle.std.specs.Fmt.{decimal}
 use Rattle.campl_text.specs.Counts.{Rose}
-use Rattle.campl_text.specs.Marked.{without_mark}
 use Rattle.campl_text.specs.Reading.{IsReading}
 use Rattle.campl_text.specs.declared.reading.TextFault.TheVariants as t
+use Rattle.campl_tree.specs.declared.decl.Program.{Program}
 use Rattle.campl_cli.specs.declared.refusal.Refusal.{Refusal}
-use Rattle.campl_cli.specs.declared.refusal.Refusal.TheVariants.{BadCommandLine, ReadFault, TooLong, NotUtf8, NotBuilt, OutOfMemory}
+use Rattle.campl_cli.specs.declared.refusal.Refusal.TheVariants.{BadCommandLine, ReadFault, TooLong, NotUtf8, Source, NotBuilt, OutOfMemory}
+use Rattle.campl_cli.specs.Faults.{words_of_fault}
 use Rattle.campl_cli.specs.Form.{Prints, IsFormOf}
+use Rattle.campl_cli.specs.Source.{HasTree, IsSourceFault}
 use Rattle.campl_cli.specs.Words.{IsCommand}
 
 -- the most bytes that a source has
@@ -18,6 +20,7 @@ abbrev pub status_of : Refusal → ℕ
 status_of BadCommandLine = 2
 status_of TooLong = 3
 status_of (NotUtf8 at) = 3
+status_of (Source fault) = 3
 status_of NotBuilt = 3
 status_of ReadFault = 5
 status_of OutOfMemory = 7
@@ -27,6 +30,7 @@ abbrev pub words_of : Refusal → List ℕ
 words_of BadCommandLine = codes "bad command line"
 words_of TooLong = codes "source is longer than 1048576 bytes"
 words_of (NotUtf8 at) = codes "source isn't UTF-8 at byte " ++ decimal at
+words_of (Source fault) = words_of_fault fault
 words_of NotBuilt = codes "E60 NotBuilt at 1:1"
 words_of ReadFault = codes "read fault"
 words_of OutOfMemory = codes "out of memory"
@@ -52,9 +56,23 @@ files holds faults old new = record { held = holds old; before = faults old; aft
 abbrev pub IsText : List ℕ → List ℕ → Type 0
 IsText contents text = IsReading contents source_limit (Ok text)
 
--- the file's source is of the form, and prints this
+-- the text has a tree of the form, and prints this
+abbrev pub PrintsText : List ℕ → Prints → Type 0
+PrintsText text p = (program : Program) × HasTree text program × IsFormOf p program
+
+-- when a text is refused so: it has no tree, or a tree of another form; want of memory alone comes freely
+abbrev pub IsRefusedText : List ℕ → Refusal → Type 0
+IsRefusedText text (Source fault) = IsSourceFault text fault
+IsRefusedText text NotBuilt = (program : Program) × HasTree text program × ((p : Prints) → IsFormOf p program → ⊥)
+IsRefusedText text OutOfMemory = ⊤
+IsRefusedText text BadCommandLine = ⊥
+IsRefusedText text TooLong = ⊥
+IsRefusedText text (NotUtf8 at) = ⊥
+IsRefusedText text ReadFault = ⊥
+
+-- the file's source prints this
 abbrev pub IsSource : Files → (file : List ℕ) → Prints → Type 0
-IsSource files file p = (text : List ℕ) × IsFormOf p text × IfSome (files.held file) (λ contents. IsText contents text)
+IsSource files file p = (text : List ℕ) × PrintsText text p × IfSome (files.held file) (λ contents. IsText contents text)
 
 -- the words name a file whose source is of the form, and prints this
 abbrev pub IsAccepted : List (List ℕ) → Files → Prints → Type 0
@@ -66,7 +84,8 @@ IsRefusedSource files file BadCommandLine = ⊥
 IsRefusedSource files file ReadFault = Rose (files.before file) (files.after file)
 IsRefusedSource files file TooLong = IfSome (files.held file) (λ contents. source_limit < length contents)
 IsRefusedSource files file (NotUtf8 at) = IfSome (files.held file) (λ contents. IsReading contents source_limit (Err (t.NotUtf8 at)))
-IsRefusedSource files file NotBuilt = (text : List ℕ) × ((p : Prints) → IsFormOf p text → ⊥) × IfSome (files.held file) (λ contents. IsText contents text)
+IsRefusedSource files file (Source fault) = (text : List ℕ) × IsRefusedText text (Source fault) × IfSome (files.held file) (λ contents. IsText contents text)
+IsRefusedSource files file NotBuilt = (text : List ℕ) × IsRefusedText text NotBuilt × IfSome (files.held file) (λ contents. IsText contents text)
 IsRefusedSource files file OutOfMemory = ⊤
 
 -- when a command is refused so: its words are no command, or the source of its file is refused
@@ -75,5 +94,6 @@ IsDue words files BadCommandLine = (file : List ℕ) → IsCommand words file �
 IsDue words files ReadFault = (file : List ℕ) × IsCommand words file × IsRefusedSource files file ReadFault
 IsDue words files TooLong = (file : List ℕ) × IsCommand words file × IsRefusedSource files file TooLong
 IsDue words files (NotUtf8 at) = (file : List ℕ) × IsCommand words file × IsRefusedSource files file (NotUtf8 at)
+IsDue words files (Source fault) = (file : List ℕ) × IsCommand words file × IsRefusedSource files file (Source fault)
 IsDue words files NotBuilt = (file : List ℕ) × IsCommand words file × IsRefusedSource files file NotBuilt
 IsDue words files OutOfMemory = ⊤

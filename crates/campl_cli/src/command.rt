@@ -3,16 +3,17 @@ ghost use Rattle.std.specs.Prelude.{MatchResult, IfErr, IfOk, map, string_bytes}
 ghost use Rattle.campl_cli.specs.Answer.{stream, IsAnswer};
 ghost use Rattle.campl_cli.specs.Form.{Prints, prints_of};
 ghost use Rattle.campl_cli.specs.Performance.{IsPerformance};
-ghost use Rattle.campl_cli.specs.Refusals.{files, IsSource, IsRefusedSource, IsAccepted, IsDue};
+ghost use Rattle.campl_cli.specs.Refusals.{files, PrintsText, IsRefusedText, IsSource, IsRefusedSource, IsAccepted, IsDue};
 
 use crate::gate::Gate;
 use crate::performance::{Performance, perform, print};
-use crate::reader::{Printer, read_printer};
+use crate::printer::{Printer, printer_of};
 use crate::refusal::{Refusal, SOURCE_LIMIT};
 use crate::report::Report;
+use crate::source::tree_of;
 use crate::telling::refuse;
 use crate::words::file_of;
-use campl_text::{Shelf, Sink, TextFault, read_text};
+use campl_text::{Shelf, Sink, Text, TextFault, read_text};
 use std::alloc::Global;
 use std::thread::Threads;
 
@@ -79,14 +80,22 @@ fn read_source<F: Shelf>(alloc: Global, file: &str, shelf: &mut F) -> Result<Pri
         (IsRefusedSource (files F.holds F.faults shelf.old shelf.new) file.now) }
 {
     match read_text(alloc, shelf, file, SOURCE_LIMIT) {
-        Ok(text) => match read_printer(alloc, text.as_str()) {
-            Ok(Some(printer)) => Ok(printer),
-            Ok(None) => Err(Refusal::NotBuilt),
-            Err(_) => Err(Refusal::OutOfMemory),
-        },
+        Ok(text) => read_printer(alloc, &text),
         Err(TextFault::ReadFault) => Err(Refusal::ReadFault),
         Err(TextFault::TooLong) => Err(Refusal::TooLong),
         Err(TextFault::NotUtf8 { at }) => Err(Refusal::NotUtf8 { at }),
         Err(TextFault::OutOfMemory) => Err(Refusal::OutOfMemory),
+    }
+}
+
+// Reads a text into its parts.
+fn read_printer(alloc: Global, text: &Text) -> Result<Printer, Refusal>
+    ensures { MatchResult result (λ printer. PrintsText text.now (prints_of printer)) (IsRefusedText text.now) }
+{
+    let program = tree_of(alloc, text)?;
+    match printer_of(alloc, &program) {
+        Ok(Some(printer)) => Ok(printer),
+        Ok(None) => Err(Refusal::NotBuilt),
+        Err(_) => Err(Refusal::OutOfMemory),
     }
 }

@@ -1,21 +1,27 @@
-//! The reader of the first sources that run: a process that prints texts on one console, closes it and halts.
+//! The command: it reads a source, judges it, runs it and writes what came out, or the one line of its refusal.
+//!
+//! So far the program runs that prints texts on one console, closes it and halts.
 #![tactic(auto)]
 
 mod command;
+mod fault;
 mod gate;
 mod output;
 mod performance;
-mod reader;
+mod printer;
 mod refusal;
 mod report;
 mod runner;
+mod source;
 mod telling;
 mod words;
 
 pub use command::campl;
+pub use fault::{FaultKind, SourceFault};
 pub use gate::{Gate, OpenGate};
-pub use reader::{Printer, read_printer};
+pub use printer::{Printer, printer_of};
 pub use refusal::{Refusal, SOURCE_LIMIT};
 pub use report::{Ended, Report};
+pub use source::tree_of;
 pub use telling::refuse;
 pub use words::file_of;

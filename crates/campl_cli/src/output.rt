@@ -1,21 +1,22 @@
 //! What a run prints.
-ghost use Rattle.std.specs.Prelude.{◌≡◌, ◌++◌, ◌∷◌, [], false, codes, IfOk, OnOk, flat_map, map, chars, string_bytes};
+ghost use Rattle.std.specs.Prelude.{◌≡◌, ◌++◌, ◌∷◌, [], false, codes, IfOk, OnOk, flat_map, map, chars, string_bytes, encode_utf8_all};
 ghost use Rattle.std.specs.Fmt.{decimal, digits};
 ghost use Rattle.campl_meaning.specs.States.{Took, WasClosed};
 ghost use Rattle.campl_meaning.specs.Ends as end;
 ghost use Rattle.campl_meaning.specs.Output.{output_of, record_line, shown_text, shown_character, end_of_line};
 
+use campl_tree::Name;
 use std::alloc::{AllocError, Global};
 use std::fmt::Write;
 
 /// The lines of a finished run: its console's name, the texts that it took, that it was closed, and the number of steps.
 pub fn output(
     alloc: Global,
-    console: &str,
+    console: &Name,
     texts: &[String],
     steps: u64,
 ) -> Result<String, AllocError>
-    ensures { IfOk result (λ output. string_bytes output ≡ output_of ((chars console.now, map Took (map chars (map string_bytes texts.now)) ++ WasClosed ∷ []) ∷ []) end.Finished [] steps) }
+    ensures { IfOk result (λ output. string_bytes output ≡ output_of ((console.now, map Took (map chars (map string_bytes texts.now)) ++ WasClosed ∷ []) ∷ []) end.Finished [] steps) }
 {
     let mut output = heading(alloc, console)?;
     for text in texts {
@@ -27,8 +28,8 @@ pub fn output(
 }
 
 // The line of a channel.
-fn heading(alloc: Global, console: &str) -> Result<String, AllocError>
-    ensures { IfOk result (λ line. string_bytes line ≡ codes "channel " ++ (console.now ++ end_of_line)) }
+fn heading(alloc: Global, console: &Name) -> Result<String, AllocError>
+    ensures { IfOk result (λ line. string_bytes line ≡ codes "channel " ++ (encode_utf8_all console.now ++ end_of_line)) }
 {
     format!(in alloc; "channel {console}\n")
 }

@@ -7,7 +7,7 @@ ghost use Rattle.campl_cli.specs.Performance.{IsPerformance, IsPrinted};
 ghost use Rattle.campl_cli.specs.Refusals.{write_fault_line};
 
 use crate::output::output;
-use crate::reader::Printer;
+use crate::printer::Printer;
 use crate::report::{Ended, Report};
 use crate::runner::run;
 use crate::telling::WRITE_FAULT;
@@ -32,7 +32,7 @@ pub fn perform(alloc: Global, printer: &Printer) -> Result<Performance, AllocErr
 {
     let texts = printer.texts.as_slice();
     let journal = run(alloc, texts)?;
-    let output = output(alloc, printer.console.as_str(), texts, journal.weight())?;
+    let output = output(alloc, &printer.console, texts, journal.weight())?;
     Ok(Performance { journal, output })
 }
 

@@ -2,6 +2,7 @@
 ghost use Rattle.std.specs.Prelude.{◌≡◌};
 ghost use Rattle.campl_cli.specs.Refusals.{status_of};
 
+use crate::fault::SourceFault;
 use thiserror::Error;
 
 /// The most bytes that a source has.
@@ -19,7 +20,10 @@ pub enum Refusal {
     /// The source isn't UTF-8; its longest front that is has `at` bytes.
     #[error("source isn't UTF-8 at byte {at}")]
     NotUtf8 { at: u64 },
-    /// The source isn't of the form that runs so far.
+    /// The source has no tokens, no layout or no tree.
+    #[error("{0}")]
+    Source(SourceFault),
+    /// The source has a tree, and isn't of the form that runs so far.
     #[error("E60 NotBuilt at 1:1")]
     NotBuilt,
     /// The source can't be read.
@@ -37,7 +41,8 @@ impl Refusal {
     {
         match self {
             Refusal::BadCommandLine => 2,
-            Refusal::TooLong | Refusal::NotUtf8 { .. } | Refusal::NotBuilt => 3,
+            Refusal::TooLong | Refusal::NotUtf8 { .. } | Refusal::Source(_) | Refusal::NotBuilt =>
+                3,
             Refusal::ReadFault => 5,
             Refusal::OutOfMemory => 7,
         }

@@ -3,7 +3,7 @@ ghost use Rattle.std.specs.Prelude.{◌≡◌, ◌+◌, ◌*◌, ◌<◌, ◌≤
 ghost use Rattle.campl_value.specs.Text.{text_of};
 ghost use Rattle.campl_config.specs.Journal.{plain_entries, weight_of};
 ghost use Rattle.campl_config.specs.Entry.{plain_kind, told};
-ghost use Rattle.campl_cli.specs.Form.{IsText};
+ghost use Rattle.campl_cli.specs.Form.{IsShort};
 ghost use Rattle.campl_cli.specs.Printing.{entry, sends, takes, journal_of};
 
 use campl_config::{Entry, Journal, Kind};
@@ -23,7 +23,7 @@ const SERVICE: u32 = 1;
 /// Makes the whole run of a process that prints these texts on its console, closes it and halts: first all actions of the
 /// process, which waits for nobody, and then all of the service.
 pub fn run(alloc: Global, texts: &[String]) -> Result<Journal, AllocError>
-    requires plain { All (λ text. IsText (string_bytes text)) texts.now }
+    requires plain { All (λ text. IsShort (chars (string_bytes text))) texts.now }
     requires few { length texts.now ≤ 1000 }
     ensures { IfOk result (λ journal. plain_entries journal.entries ≡ journal_of (map chars (map string_bytes texts.now))) }
 {
@@ -41,7 +41,7 @@ pub fn run(alloc: Global, texts: &[String]) -> Result<Journal, AllocError>
 
 // The values that the texts are. Each is made once, and shared by what is sent and what is taken.
 fn words_of(alloc: Global, texts: &[String]) -> Result<Vec<Value>, AllocError>
-    requires { All (λ text. IsText (string_bytes text)) texts.now }
+    requires { All (λ text. IsShort (chars (string_bytes text))) texts.now }
     ensures { IfOk result (λ words. words.items ≡ map text_of (map chars (map string_bytes texts.now))) }
 {
     let mut words = Vec::new(alloc);

@@ -1,13 +1,15 @@
 //! Tells a refusal on the stream of errors.
-ghost use Rattle.std.specs.Prelude.{◌≡◌, ◌≢◌, ◌⊎◌};
+ghost use Rattle.std.specs.Prelude.{◌≡◌, ◌≢◌, ◌⊎◌, ◌++◌, ◌∷◌, [], codes, IfOk, string_bytes};
+ghost use Rattle.std.specs.Fmt.{decimal};
 ghost use Rattle.campl_cli.specs.Refusals.{line_of, status_of};
 ghost use Rattle.campl_cli.specs.Answer.{stream, IsTold, IsRefused, HasNoRun};
 
+use crate::fault::SourceFault;
 use crate::refusal::Refusal;
 use crate::report::Report;
 use campl_config::Journal;
 use campl_text::{Sink, write_all_of};
-use std::alloc::Global;
+use std::alloc::{AllocError, Global};
 
 /// The status where writing failed.
 pub const WRITE_FAULT: u8 = 6;
@@ -21,6 +23,7 @@ pub fn refuse<E: Sink>(alloc: Global, refusal: Refusal, err: &mut E) -> Report
         Refusal::BadCommandLine => "campl: bad command line\n",
         Refusal::TooLong => "campl: source is longer than 1048576 bytes\n",
         Refusal::NotUtf8 { at } => return refuse_bytes(alloc, at, err),
+        Refusal::Source(fault) => return refuse_source(alloc, fault, err),
         Refusal::NotBuilt => "campl: E60 NotBuilt at 1:1\n",
         Refusal::ReadFault => "campl: read fault\n",
         Refusal::OutOfMemory => OUT_OF_MEMORY_LINE,
@@ -39,6 +42,35 @@ fn refuse_bytes<E: Sink>(alloc: Global, at: u64, err: &mut E) -> Report
         Ok(line) => tell(alloc, Refusal::NotUtf8 { at }, line.as_str(), err),
         Err(_) => tell(alloc, Refusal::OutOfMemory, OUT_OF_MEMORY_LINE, err),
     }
+}
+
+// The source has this first fault.
+fn refuse_source<E: Sink>(alloc: Global, fault: SourceFault, err: &mut E) -> Report
+    ensures { IsRefused (Refusal.Source fault) (stream E.written E.faults err.old err.new) result }
+{
+    match line_of_fault(alloc, fault) {
+        Ok(line) => tell(alloc, Refusal::Source(fault), line.as_str(), err),
+        Err(_) => tell(alloc, Refusal::OutOfMemory, OUT_OF_MEMORY_LINE, err),
+    }
+}
+
+// The line of a fault.
+fn line_of_fault(alloc: Global, fault: SourceFault) -> Result<String, AllocError>
+    ensures { IfOk result (λ line. string_bytes line ≡ line_of (Refusal.Source fault)) }
+{
+    spelled(
+        alloc,
+        fault.kind.code(),
+        fault.place.line,
+        fault.place.column,
+    )
+}
+
+// The line of a fault with this number and name, at this line and column.
+fn spelled(alloc: Global, code: &str, line: u32, column: u32) -> Result<String, AllocError>
+    ensures { IfOk result (λ text. string_bytes text ≡ codes "campl: " ++ (code.now ++ (codes " at " ++ (decimal line ++ (codes ":" ++ (decimal column ++ (10 ∷ []))))))) }
+{
+    format!(in alloc; "campl: {code} at {line}:{column}\n")
 }
 
 // Writes the line, and answers that nothing ran.

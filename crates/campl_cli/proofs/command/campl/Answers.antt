@@ -1,5 +1,4 @@
 -- What ran is answered.
-use Rattle.std.proofs.Common.{◌≡◌}
 use Rattle.campl_cli.proofs.TopCall.{answers_run}
 use Rattle.campl_cli.proofs.command.campl.Goals as goal
 

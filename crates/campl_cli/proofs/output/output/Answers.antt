@@ -13,5 +13,5 @@ returns c =
     let p : List ℕ = string_bytes c.loop-text.output in
     let lines : p ≡ string_bytes c.in_ok-output.output ++ F c.args.texts.now =
     sym (append-nil p) ∙ (sym (ap (λ x. p ++ x) (at_drop_all F c.args.texts.now c.loop-text.text-index c.loop-text-test.false)) ∙ c.loop-text.invariant) in
-    whole_output c.args.console.now (map chars (map string_bytes c.args.texts.now)) c.args.steps _ _ _ c.utf8.console c.in_ok-output.ensures lines
+    whole_output c.args.console.now (map chars (map string_bytes c.args.texts.now)) c.args.steps _ _ _ c.in_ok-output.ensures lines
     (c.in_ok-push_str.ensures.bytes ∙ ap (λ x. p ++ x) (c.as_str-2.ensures.value ∙ c.in_ok-ending.ensures))

@@ -1,5 +1,5 @@
 -- The parts of the line, one after another.
-use Rattle.std.proofs.Common.{◌≡◌, ◌∙◌, ap, ◌++◌, List, ℕ, ◌∷◌, []}
+use Rattle.std.proofs.Common.{◌∙◌, ap, ◌++◌, ◌∷◌, []}
 use Rattle.std.specs.Prelude.{string_bytes, chars}
 use Rattle.campl_meaning.specs.Output.{shown_text, end_of_line}
 use Rattle.campl_cli.proofs.OutputLines.{three_parts}

@@ -1,5 +1,5 @@
 -- The output couldn't be written.
-use Rattle.std.proofs.Common.{◌≡◌, inr, ap}
+use Rattle.std.proofs.Common.{inr, ap}
 use Rattle.campl_cli.proofs.Streams.{failed_in}
 use Rattle.campl_cli.proofs.performance.print.Goals as goal
 

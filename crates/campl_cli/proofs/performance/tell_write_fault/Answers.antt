@@ -1,5 +1,5 @@
 -- The line couldn't be written.
-use Rattle.std.proofs.Common.{◌≡◌, inr}
+use Rattle.std.proofs.Common.{inr}
 use Rattle.campl_cli.proofs.Streams.{failed_in}
 use Rattle.campl_cli.proofs.performance.tell_write_fault.Goals as goal
 

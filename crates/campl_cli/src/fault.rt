@@ -1,0 +1,59 @@
+//! Faults of a source.
+ghost use Rattle.std.specs.Prelude.{◌≡◌};
+ghost use Rattle.campl_cli.specs.Faults.{code_of};
+
+use campl_tree::Place;
+use thiserror::Error;
+
+/// The first fault of a source, at its place.
+#[derive(Clone, Copy, Debug, PartialEq, Eq, Error)]
+#[error("{code} at {line}:{column}", code = .kind.code(), line = .place.line, column = .place.column)]
+pub struct SourceFault {
+    pub kind: FaultKind,
+    pub place: Place,
+}
+
+/// What is wrong of a source. `docs/LANGUAGE.md` lists the numbers and the places.
+#[derive(Clone, Copy, Debug, PartialEq, Eq)]
+pub enum FaultKind {
+    /// A character that begins no token.
+    BadCharacter,
+    /// A literal that doesn't end on its line, or a character literal that hasn't exactly one character.
+    OpenString,
+    /// A backslash that begins no escape.
+    BadEscape,
+    /// A number above 9,223,372,036,854,775,807.
+    NumberTooLarge,
+    /// A name of more than 64 characters.
+    NameTooLong,
+    /// A Tab outside a comment.
+    Tab,
+    /// A token, or the end, in a column that the blocks round it don't allow.
+    BadColumn,
+    /// A text of more than 1,024 characters.
+    TextTooLong,
+    /// A token after which nothing can help: no program begins so.
+    Unexpected,
+    /// A token that is nested more than 200 deep.
+    TooDeep,
+}
+
+impl FaultKind {
+    /// The number and the name of the fault, as its line has them.
+    pub fn code(self) -> &'static str
+        ensures { result.now ≡ code_of self }
+    {
+        match self {
+            FaultKind::BadCharacter => "E01 BadCharacter",
+            FaultKind::OpenString => "E02 OpenString",
+            FaultKind::BadEscape => "E03 BadEscape",
+            FaultKind::NumberTooLarge => "E04 NumberTooLarge",
+            FaultKind::NameTooLong => "E05 NameTooLong",
+            FaultKind::Tab => "E06 Tab",
+            FaultKind::BadColumn => "E07 BadColumn",
+            FaultKind::TextTooLong => "E08 TextTooLong",
+            FaultKind::Unexpected => "E10 Unexpected",
+            FaultKind::TooDeep => "E11 TooDeep",
+        }
+    }
+}
