@@ -1,16 +1,15 @@
 -- Where no name is declared twice, each constructor of a data type is known by its name.
-use Rattle.std.proofs.Common.{◌≡◌, ◌∙◌, refl, sym, ap, subst, ℕ, zero, suc, ◌+◌, Bool, true, false, ◌&&◌, ◌||◌, ◌⊎◌, inl, inr, List, [], ◌∷◌, ◌++◌, Option, Some, None, if◌then◌else◌, map, slice_get, true≢false, arith}
+use Rattle.std.proofs.Common.{◌≡◌, refl, sym, ap, subst, ℕ, zero, suc, ◌+◌, Bool, true, false, ◌&&◌, ◌||◌, ◌⊎◌, inl, inr, List, [], ◌∷◌, ◌++◌, Option, Some, None, if◌then◌else◌, map, slice_get, true≢false, arith}
 use Rattle.campl_tree.specs.declared.place.Ident.{Ident}
 use Rattle.campl_tree.specs.Plain.Decl.{Decl, Data, Protocol, Coprotocol, Function, Process, Program, DataDecl, ProtocolDecl, CoprotocolDecl, DataConstructor, ProtocolConstructor, CoprotocolConstructor}
 use Rattle.campl_types.specs.declared.fault.NameFault.{NameFault}
-use Rattle.campl_types.specs.declared.fault.NameFault.TheVariants.{Twice}
 use Rattle.campl_types.specs.Names.{Name, same_name}
-use Rattle.campl_types.specs.Twice.{Space, Types, Constructors, Lowers, ParametersOf, same_space, in_space, declares, declared_from, is_declared, twice_among, twice_faults}
+use Rattle.campl_types.specs.Twice.{Space, Types, Constructors, ParametersOf, same_space, in_space, declares, declared_from, is_declared, twice_among, twice_faults}
 use Rattle.campl_types.specs.Known.{each, in_decl}
 use Rattle.campl_types.specs.Run.{run_faults}
 use Rattle.campl_types.specs.Values.{ConstructorsAreKnown}
 use Rattle.campl_types.specs.WellDeclared.{IsWellDeclared}
-use Rattle.campl_types.specs.World.{World, world_of, TypeEntry, DataType, ProtocolType, CoprotocolType, type_entry, or_else, where_named, declared_ident, type_named, as_data, data_named, ConstructorEntry, OfData, OfProtocol, OfCoprotocol, among_data, among_protocol, among_coprotocol, constructor_entry, constructor_named}
+use Rattle.campl_types.specs.World.{World, world_of, type_entry, or_else, where_named, declared_ident, type_named, as_data, data_named, ConstructorEntry, OfData, among_data, among_protocol, among_coprotocol, constructor_entry, constructor_named}
 use Rattle.campl_types.proofs.Names.{same-itself}
 
 abbrev Declared : Type 0

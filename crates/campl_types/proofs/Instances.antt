@@ -1,14 +1,13 @@
 -- A value of a type whose parameters are replaced is a value of the type, so what is said of the values of
 -- a function's types holds at each call.
-use Rattle.std.proofs.Common.{◌≡◌, refl, sym, subst, ℕ, Bool, true, false, List, [], ◌∷◌, Option, Some, None, unwrap_or, if◌then◌else◌, map}
+use Rattle.std.proofs.Common.{◌≡◌, refl, subst, Bool, true, false, List, [], ◌∷◌, Some, unwrap_or, if◌then◌else◌, map}
 use Rattle.campl_tree.specs.declared.place.Place.{Place}
 use Rattle.campl_tree.specs.Plain.SeqType.{SeqType, SeqTypes, no_types, type_then}
 use Rattle.campl_tree.specs.Plain.SeqType as s
-use Rattle.campl_tree.specs.Plain.Decl.{DataDecl, DataConstructor}
 use Rattle.campl_value.specs.Tree.{Tree, Trees, Int, Char, Truth, Nil, Cell, Pair, Built, none, more}
 use Rattle.campl_types.specs.Names.{Name, same_name, found}
 use Rattle.campl_types.specs.Substitution.{Filling, filling, filled, all_filled, list_of}
-use Rattle.campl_types.specs.Values.{IsValue, AreValues, parts_at}
+use Rattle.campl_types.specs.Values.{IsValue, AreValues}
 use Rattle.campl_types.specs.World.{World, names_of, data_named}
 
 -- the first type is the second with something in place of each variable

@@ -1,19 +1,19 @@
 -- Where nothing is missing, each list of values of the types matches a row.
-use Rattle.std.proofs.Common.{◌≡◌, refl, sym, ap, subst, ◌∙◌, ℕ, zero, suc, ◌+◌, Bool, true, false, ◌&&◌, ◌||◌, ◌⊎◌, inl, inr, List, [], ◌∷◌, ◌++◌, Option, Some, None, is_some, if◌then◌else◌, eqb, eqb-true, eq-eqb, map, length, slice_get, option_map, true≢false}
+use Rattle.std.proofs.Common.{◌≡◌, refl, sym, ap, subst, ◌∙◌, ℕ, zero, suc, Bool, true, false, ◌&&◌, ◌||◌, ◌⊎◌, inl, inr, List, [], ◌∷◌, ◌++◌, Option, Some, None, is_some, if◌then◌else◌, eqb, eqb-true, eq-eqb, map, length, slice_get, option_map, true≢false}
 use Rattle.campl_tree.specs.declared.place.Place.{Place}
 use Rattle.campl_tree.specs.Plain.SeqType.{SeqType, SeqTypes, Named, Variable}
 use Rattle.campl_tree.specs.Plain.SeqType as s
 use Rattle.campl_tree.specs.Plain.Decl.{DataDecl, DataConstructor}
-use Rattle.campl_value.specs.Tree.{Tree, Trees, Int, Char, Truth, Nil, Cell, Pair, Built, none, more, list_of}
+use Rattle.campl_value.specs.Tree.{Tree, Trees, Truth, Nil, Cell, Pair, Built, none, more, list_of}
 use Rattle.campl_types.specs.Names.{Name, same_name}
-use Rattle.campl_types.proofs.Names.{same-is, same-itself}
+use Rattle.campl_types.proofs.Names.{same-is}
 use Rattle.campl_types.specs.Substitution as types
 use Rattle.campl_types.specs.Forms as f
 use Rattle.campl_types.specs.Forms.{Form, Forms, anythings}
 use Rattle.campl_types.specs.Values.{IsValue, AreValues, AllAreValues, ConstructorsAreKnown, parts_at}
-use Rattle.campl_types.specs.World.{World, OfData, constructor_named, data_named, number_in}
+use Rattle.campl_types.specs.World.{World, OfData, constructor_named, data_named}
 use Rattle.campl_types.specs.Matching.{Bindings, both, matched, all_matched, row_matched, first_match, or_next, next_row, number_of, is_number, same_truth}
-use Rattle.campl_types.specs.Missing.{Row, Head, IsNumber, IsCharacter, IsTruth, IsNil, IsCons, IsPair, IsBuilt, IsOther, parts_of, heads, opened, opened_row, opened_rows, and_then, put_back, all_open, column, or_try, first_missing, no_columns, missing_by, missing_within, missing, literals}
+use Rattle.campl_types.specs.Missing.{Row, Head, IsNumber, IsCharacter, IsTruth, IsNil, IsCons, IsPair, IsBuilt, IsOther, parts_of, heads, opened, opened_rows, and_then, put_back, all_open, column, or_try, first_missing, missing_by, missing_within, missing, literals}
 
 -- Whether rows match, as truth values
 

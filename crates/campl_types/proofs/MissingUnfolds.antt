@@ -1,12 +1,12 @@
 -- The missing pattern is what its rules say, however deep heads are tried inside heads: the bound on that
 -- depth never cuts a trial off.
-use Rattle.std.proofs.Common.{◌≡◌, ◌∙◌, refl, sym, ap, subst, ℕ, zero, suc, ◌+◌, ◌≤◌, ◌<◌, Bool, true, false, ◌&&◌, List, [], ◌∷◌, ◌++◌, Option, Some, None, if◌then◌else◌, length, option_map, true≢false, arith, eqb}
+use Rattle.std.proofs.Common.{◌≡◌, refl, sym, ap, subst, ℕ, zero, suc, ◌+◌, ◌≤◌, Bool, true, false, ◌&&◌, List, [], ◌∷◌, ◌++◌, Option, Some, None, if◌then◌else◌, length, option_map, arith, eqb}
 use Rattle.campl_tree.specs.Plain.SeqType.{SeqType}
 use Rattle.campl_types.specs.Names.{same_name}
 use Rattle.campl_types.specs.Forms as f
 use Rattle.campl_types.specs.Forms.{Form, Forms, anythings}
 use Rattle.campl_types.specs.World.{World}
-use Rattle.campl_types.specs.Missing.{Row, Head, IsNumber, IsCharacter, IsTruth, IsNil, IsCons, IsPair, IsBuilt, IsOther, parts_of, heads, opened, opened_row, opened_rows, and_then, put_back, is_open, all_open, column, first_of, or_try, first_missing, no_columns, missing_by, missing_within, missing, weight, weights, row_weight, rows_weight, where_so}
+use Rattle.campl_types.specs.Missing.{Row, Head, IsNumber, IsCharacter, IsTruth, IsNil, IsCons, IsPair, IsBuilt, IsOther, parts_of, heads, opened, opened_rows, and_then, is_open, all_open, column, first_missing, missing_by, missing_within, missing, weight, weights, row_weight, rows_weight}
 
 -- Weights
 

@@ -1,5 +1,5 @@
 -- The test of names decides whether they are the same.
-use Rattle.std.proofs.Common.{◌≡◌, ◌∙◌, ◌⊎◌, inl, inr, refl, sym, ap, ℕ, Bool, true, false, ◌&&◌, List, [], ◌∷◌, eqb, eqb-true, eq-eqb, true≢false}
+use Rattle.std.proofs.Common.{◌≡◌, ◌∙◌, ◌⊎◌, inl, inr, refl, sym, ℕ, Bool, true, false, ◌&&◌, [], ◌∷◌, eqb, eqb-true, eq-eqb, true≢false}
 use Rattle.campl_types.specs.Names.{Name, same_name}
 
 first-same : (a b : ℕ) (c : Bool) → (eqb a b && c) ≡ true → a ≡ b

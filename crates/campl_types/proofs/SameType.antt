@@ -1,11 +1,11 @@
 -- The test of sameness decides it.
-use Rattle.std.proofs.Common.{◌≡◌, ◌∙◌, refl, sym, ap, Bool, true, false, ◌&&◌, true≢false}
+use Rattle.std.proofs.Common.{◌≡◌, refl, sym, ap, Bool, true, false, ◌&&◌, true≢false}
 use Rattle.campl_tree.specs.Plain.SeqType.{SeqType, SeqTypes, no_types, type_then}
 use Rattle.campl_tree.specs.Plain.SeqType as s
 use Rattle.campl_tree.specs.Plain.ChanType.{ChanType}
 use Rattle.campl_tree.specs.Plain.ChanType as c
 use Rattle.campl_types.specs.Names.{Name, same_name}
-use Rattle.campl_types.specs.SameType.{nowhere, bare, all_bare, bare_chan, IsSame, IsSameChan}
+use Rattle.campl_types.specs.SameType.{nowhere, all_bare, IsSame, IsSameChan}
 use Rattle.campl_types.specs.SameTest.{same_seq, same_seqs, same_chan}
 use Rattle.campl_types.proofs.Names as names
 

@@ -1,14 +1,14 @@
 -- A view from the other side: what one side gives the other takes, so that of two partners one takes nothing.
-use Rattle.std.proofs.Common.{◌≡◌, ◌∙◌, refl, sym, ap, ℕ, List, [], ◌∷◌, ◌⊎◌, inl, inr, Option, Some, None}
+use Rattle.std.proofs.Common.{◌≡◌, refl, ap, List, [], ◌∷◌, ◌⊎◌, inl, inr, Option, Some, None}
 use Rattle.campl_tree.specs.declared.service.Side.{Side}
 use Rattle.campl_tree.specs.declared.service.Side.TheVariants.{Input, Output}
 use Rattle.campl_tree.specs.Side as side
-use Rattle.campl_tree.specs.Plain.SeqType.{SeqType, SeqTypes}
+use Rattle.campl_tree.specs.Plain.SeqType.{SeqType}
 use Rattle.campl_tree.specs.Plain.ChanType.{ChanType, Put, Get, Tensor, Par, TopBot, Neg, Named}
 use Rattle.campl_types.specs.Substitution.{list_of}
 use Rattle.campl_types.specs.World.{World, TypeEntry, DataType, ProtocolType, CoprotocolType, type_named}
 use Rattle.campl_types.specs.Polarity.{Deed, Puts, Gets, Forks, Splits, Picks, Offers, Ends, IsLinked, deed, of_named}
-use Rattle.campl_types.specs.Views.{View, As, Nothing, turned, view_of, deed_of, side_of, Letter, Word, Pick, TwoEnds, Takes, TakesAll, taken_at}
+use Rattle.campl_types.specs.Views.{View, As, Nothing, turned, view_of, deed_of, side_of, Letter, TakesAll, taken_at}
 
 pub opposite-twice : (s : Side) → side.opposite (side.opposite s) ≡ s
 opposite-twice Input = refl

@@ -1,5 +1,5 @@
 -- What the test of sameness answers at types of different forms.
-use Rattle.std.proofs.Common.{◌≡◌, ◌∙◌, refl, sym, ap, subst, ℕ, suc, Bool, true, false, ◌&&◌, List, [], ◌∷◌, map, length}
+use Rattle.std.proofs.Common.{◌≡◌, ◌∙◌, refl, sym, ap, suc, Bool, true, false, ◌&&◌, List, [], ◌∷◌, map, length}
 use Rattle.campl_tree.specs.declared.place.Place.{Place}
 use Rattle.campl_tree.specs.declared.name.Name.{Name}
 use Rattle.campl_tree.specs.declared.types.SeqType.{SeqType, out-SeqType, roll-SeqType}

@@ -1,5 +1,5 @@
 -- What the test of sameness answers at channel types of different forms.
-use Rattle.std.proofs.Common.{◌≡◌, ◌∙◌, refl, sym, ap, Bool, true, false, List, map}
+use Rattle.std.proofs.Common.{◌≡◌, ◌∙◌, refl, sym, ap, false, List, map}
 use Rattle.campl_tree.specs.declared.place.Place.{Place}
 use Rattle.campl_tree.specs.declared.name.Name.{Name}
 use Rattle.campl_tree.specs.declared.types.SeqType.{SeqType}

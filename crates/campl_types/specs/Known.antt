@@ -1,7 +1,7 @@
 -- Each used name is known, of its kind, and has as many type arguments as its declaration has
 -- parameters. The faults of a form are listed in source order; at one name that of the number of
 -- arguments is the last.
-use Rattle.std.specs.Prelude.{ℕ, zero, Bool, true, false, not, List, [], ◌∷◌, ◌++◌, Option, Some, None, if◌then◌else◌, eqb, length}
+use Rattle.std.specs.Prelude.{ℕ, Bool, false, List, [], ◌∷◌, ◌++◌, Option, Some, None, if◌then◌else◌, eqb, length}
 use Rattle.campl_tree.specs.declared.place.Place.{Place}
 use Rattle.campl_tree.specs.declared.place.Ident.{Ident}
 use Rattle.campl_tree.specs.Plain.SeqType as s
@@ -29,16 +29,16 @@ abbrev pub is_local : Option Name → Name → Bool
 is_local None x = false
 is_local (Some s) x = same_name s x
 
-abbrev counted : Place → (found wanted : ℕ) → List NameFault
+abbrev pub counted : Place → (found wanted : ℕ) → List NameFault
 counted at found wanted = if eqb found wanted then [] else TypeArguments at found wanted ∷ []
 
-abbrev a_data_type : Option TypeEntry → Place → Name → ℕ → List NameFault
+abbrev pub a_data_type : Option TypeEntry → Place → Name → ℕ → List NameFault
 a_data_type (Some (DataType d)) at x n = counted at n (length d.parameters)
 a_data_type (Some (ProtocolType d)) at x n = WrongKind at x ∷ []
 a_data_type (Some (CoprotocolType d)) at x n = WrongKind at x ∷ []
 a_data_type None at x n = Unknown at x ∷ []
 
-abbrev a_protocol : Option TypeEntry → Place → Name → ℕ → List NameFault
+abbrev pub a_protocol : Option TypeEntry → Place → Name → ℕ → List NameFault
 a_protocol (Some (DataType d)) at x n = WrongKind at x ∷ []
 a_protocol (Some (ProtocolType d)) at x n = counted at n (length d.parameters)
 a_protocol (Some (CoprotocolType d)) at x n = counted at n (length d.parameters)
@@ -76,13 +76,13 @@ each f (x ∷ xs) = f x ++ each f xs
 
 -- Constructors
 
-abbrev of_data : Option ConstructorEntry → Place → Name → List NameFault
+abbrev pub of_data : Option ConstructorEntry → Place → Name → List NameFault
 of_data (Some (OfData d n k)) at x = []
 of_data (Some (OfProtocol d n k)) at x = WrongKind at x ∷ []
 of_data (Some (OfCoprotocol d n k)) at x = WrongKind at x ∷ []
 of_data None at x = Unknown at x ∷ []
 
-abbrev of_protocol : Option ConstructorEntry → Place → Name → List NameFault
+abbrev pub of_protocol : Option ConstructorEntry → Place → Name → List NameFault
 of_protocol (Some (OfData d n k)) at x = WrongKind at x ∷ []
 of_protocol (Some (OfProtocol d n k)) at x = []
 of_protocol (Some (OfCoprotocol d n k)) at x = []
@@ -109,12 +109,12 @@ abbrev mutual
 
 -- Functions, processes and variables
 
-abbrev a_function : Option LowerEntry → Place → Name → List NameFault
+abbrev pub a_function : Option LowerEntry → Place → Name → List NameFault
 a_function (Some (AFunction f)) at x = []
 a_function (Some (AProcess p)) at x = WrongKind at x ∷ []
 a_function None at x = Unknown at x ∷ []
 
-abbrev a_process : Option LowerEntry → Place → Name → List NameFault
+abbrev pub a_process : Option LowerEntry → Place → Name → List NameFault
 a_process (Some (AFunction f)) at x = WrongKind at x ∷ []
 a_process (Some (AProcess p)) at x = []
 a_process None at x = Unknown at x ∷ []
@@ -154,7 +154,7 @@ abbrev mutual
 
 -- Processes; what a `get` binds is known in what follows it
 
-abbrev outside : Heading
+abbrev pub outside : Heading
 outside = record { parameters = []; local = None }
 
 abbrev pub in_action : World → List Name → b.Action → List NameFault
@@ -203,10 +203,10 @@ abbrev mutual
 -- Declarations
 
 -- the name at the end of a protocol's line, or before a coprotocol's type, is that of its heading
-abbrev is_own : Name → Ident → List NameFault
+abbrev pub is_own : Name → Ident → List NameFault
 is_own s x = if same_name s x.name then [] else WrongKind x.place x.name ∷ []
 
-abbrev within : List Ident → Ident → Heading
+abbrev pub within : List Ident → Ident → Heading
 within parameters local = record { parameters = names_of parameters; local = Some local.name }
 
 abbrev pub in_decl : World → d.Decl → List NameFault

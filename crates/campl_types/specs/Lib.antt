@@ -1,4 +1,5 @@
 pub mod Names
+pub mod NameSet
 pub mod Substitution
 pub mod SameType
 pub mod SameTest
@@ -6,7 +7,11 @@ pub mod Prelude
 pub mod World
 pub mod Patterns
 pub mod Twice
+pub mod Tables
+pub mod Entries
+pub mod Judges
 pub mod Known
+pub mod Scope
 pub mod Run
 pub mod WellDeclared
 pub mod Polarity

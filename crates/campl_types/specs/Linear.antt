@@ -2,7 +2,7 @@
 -- wants its channel at the entry of the polarity table that is its own, and leaves what remains. A body
 -- ends holding nothing. At `fork` the channels may be divided in any way that makes both bodies well
 -- formed; at `plug` the headers tell how.
-use Rattle.std.specs.Prelude.{◌≡◌, ◌≢◌, ℕ, ◌+◌, ◌≤◌, Bool, true, false, not, IsTrue, List, [], ◌∷◌, ◌++◌, Option, Some, None, if◌then◌else◌, length}
+use Rattle.std.specs.Prelude.{◌≡◌, ℕ, ◌≤◌, Bool, true, false, not, IsTrue, List, [], ◌∷◌, ◌++◌, Some, None, length}
 use Rattle.campl_tree.specs.declared.place.Ident.{Ident}
 use Rattle.campl_tree.specs.declared.process.Binder.{Binder}
 use Rattle.campl_tree.specs.declared.process.Binder.TheVariants as binder
@@ -14,7 +14,7 @@ use Rattle.campl_tree.specs.Plain.ChanType.{ChanType, Neg}
 use Rattle.campl_tree.specs.Plain.Process as b
 use Rattle.campl_tree.specs.Plain.Process.{Body, Action, HcaseRows, CaseRows, Branches, Parts}
 use Rattle.campl_tree.specs.Plain.Decl.{ProcessDecl, Decl, Data, Protocol, Coprotocol, Function, Process}
-use Rattle.campl_types.specs.Names.{Name, same_name, is_among, all_among, are_distinct, found}
+use Rattle.campl_types.specs.Names.{Name, same_name, all_among, are_distinct, found}
 use Rattle.campl_types.specs.SameType.{IsSameChan}
 use Rattle.campl_types.specs.World.{World, names_of, process_named}
 use Rattle.campl_types.specs.Polarity.{Puts, Gets, Forks, Splits, Picks, Offers, Ends, Choices, deed}
@@ -23,7 +23,7 @@ use Rattle.campl_types.specs.Forms.{form_of}
 use Rattle.campl_types.specs.Fits.{Vars, fits}
 use Rattle.campl_types.specs.Missing.{Row}
 use Rattle.campl_types.specs.Sequential.{HasType, Found, Checked, PartsHaveTypes, AreExhaustive}
-use Rattle.campl_types.specs.Held.{Channel, On, Held, nothing_held, with, without, only, HoldsOnly, HasNoVariables}
+use Rattle.campl_types.specs.Held.{On, Held, nothing_held, with, without, only, HoldsOnly, HasNoVariables}
 use Rattle.campl_types.specs.Headers.{Links, links_in, link_names, Divide, share, count}
 
 -- a plug has 2 to 64 parts, and a race 2 to 16 branches

@@ -26,7 +26,7 @@ abbrev pub found : {A : Type 0} → Name → List (Name × A) → Option A
 found x [] = None
 found x (e ∷ es) = if same_name x e.0 then Some e.1 else found x es
 
-abbrev without : Name → List Name → List Name
+abbrev pub without : Name → List Name → List Name
 without x [] = []
 without x (y ∷ ys) = if same_name x y then without x ys else y ∷ without x ys
 

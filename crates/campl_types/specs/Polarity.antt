@@ -10,7 +10,7 @@
 --     a coprotocol        hcase         hput          the constructor's type
 --     TopBot              close, halt   close, halt   nothing
 --     Neg(X)              identity      identity      nothing
-use Rattle.std.specs.Prelude.{◌≡◌, ◌⊎◌, Bool, true, false, List, [], ◌∷◌, Option, Some, None, if◌then◌else◌, map}
+use Rattle.std.specs.Prelude.{◌≡◌, ◌⊎◌, List, Option, Some, None, if◌then◌else◌, map}
 use Rattle.campl_tree.specs.declared.place.Ident.{Ident}
 use Rattle.campl_tree.specs.declared.service.Side.{Side}
 use Rattle.campl_tree.specs.declared.service.Side.TheVariants.{Input, Output}
@@ -20,7 +20,7 @@ use Rattle.campl_tree.specs.Plain.ChanType.{ChanType, Put, Get, Tensor, Par, Top
 use Rattle.campl_tree.specs.Plain.Decl.{ProtocolDecl, ProtocolConstructor, CoprotocolDecl, CoprotocolConstructor}
 use Rattle.campl_types.specs.declared.act.Act.{Act}
 use Rattle.campl_types.specs.declared.act.Act.TheVariants as act
-use Rattle.campl_types.specs.Names.{Name, same_name, found}
+use Rattle.campl_types.specs.Names.{Name, same_name}
 use Rattle.campl_types.specs.Substitution.{Filling, filling, filled, all_filled, list_of, types_of}
 use Rattle.campl_types.specs.SameType.{nowhere, IsSameChan}
 use Rattle.campl_types.specs.World.{World, TypeEntry, DataType, ProtocolType, CoprotocolType, type_named, names_of, ConstructorEntry, OfData, OfProtocol, OfCoprotocol, constructor_named}
@@ -97,7 +97,7 @@ deed w side (Named at x ts) = of_named (type_named w x) side (list_of ts)
 deed w side TopBot = Ends
 deed w side (Neg x) = IsLinked
 
-abbrev act_of : Deed → Act
+abbrev pub act_of : Deed → Act
 act_of (Puts t x) = act.Put
 act_of (Gets t x) = act.Get
 act_of (Forks x y) = act.Fork
@@ -106,6 +106,15 @@ act_of (Picks cs) = act.Pick
 act_of (Offers cs) = act.Offer
 act_of Ends = act.End
 act_of IsLinked = act.Link
+
+-- the table's entry at a named type
+abbrev pub named_act : Option TypeEntry → Side → Act
+named_act (Some (ProtocolType d)) Output = act.Pick
+named_act (Some (ProtocolType d)) Input = act.Offer
+named_act (Some (CoprotocolType d)) Output = act.Offer
+named_act (Some (CoprotocolType d)) Input = act.Pick
+named_act (Some (DataType d)) side = act.Link
+named_act None side = act.Link
 
 -- the table's entry
 abbrev pub allowed : World → ChanType → Side → Act

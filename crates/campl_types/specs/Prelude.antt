@@ -8,7 +8,7 @@
 --         StringTerminalGet :: Get([Char] | S) => S
 --         StringTerminalPut :: Put([Char] | S) => S
 --         StringTerminalClose :: TopBot => S
-use Rattle.std.specs.Prelude.{List, [], ◌∷◌, codes}
+use Rattle.std.specs.Prelude.{[], ◌∷◌, codes}
 use Rattle.campl_tree.specs.declared.place.Ident.{Ident}
 use Rattle.campl_tree.specs.Plain.SeqType as s
 use Rattle.campl_tree.specs.Plain.ChanType.{ChanType, Put, Get, TopBot, Named}
@@ -17,20 +17,20 @@ use Rattle.campl_tree.specs.Plain.Decl.{Program, CoprotocolConstructor, Protocol
 use Rattle.campl_types.specs.Names.{Name}
 use Rattle.campl_types.specs.SameType.{nowhere}
 
-abbrev ident : Name → Ident
+abbrev pub ident : Name → Ident
 ident x = record { place = nowhere; name = x }
 
 -- S, which in a line stands for the protocol itself
-abbrev self : ChanType
-self = Named nowhere (codes "S") s.no_types
+abbrev pub own_type : ChanType
+own_type = Named nowhere (codes "S") s.no_types
 
-abbrev text : s.SeqType
-text = s.List s.Char
+abbrev pub letters : s.SeqType
+letters = s.List s.Char
 
-abbrev answer : Name → ChanType → CoprotocolConstructor
+abbrev pub answer : Name → ChanType → CoprotocolConstructor
 answer x t = record { name = ident x; local = ident (codes "S"); channel_type = t }
 
-abbrev offer : Name → ChanType → ProtocolConstructor
+abbrev pub offer : Name → ChanType → ProtocolConstructor
 offer x t = record { name = ident x; channel_type = t; local = ident (codes "S") }
 
 abbrev pub console : d.CoprotocolDecl
@@ -40,8 +40,8 @@ console =
       local = ident (codes "S");
       name = ident (codes "Console");
       parameters = [];
-      constructors = answer (codes "ConsolePut") (Get text self)
-          ∷ answer (codes "ConsoleGet") (Put text self)
+      constructors = answer (codes "ConsolePut") (Get letters own_type)
+          ∷ answer (codes "ConsoleGet") (Put letters own_type)
           ∷ answer (codes "ConsoleClose") TopBot
           ∷ [];
     }
@@ -53,8 +53,8 @@ string_terminal =
       name = ident (codes "StringTerminal");
       parameters = [];
       local = ident (codes "S");
-      constructors = offer (codes "StringTerminalGet") (Get text self)
-          ∷ offer (codes "StringTerminalPut") (Put text self)
+      constructors = offer (codes "StringTerminalGet") (Get letters own_type)
+          ∷ offer (codes "StringTerminalPut") (Put letters own_type)
           ∷ offer (codes "StringTerminalClose") TopBot
           ∷ [];
     }

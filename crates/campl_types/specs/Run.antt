@@ -1,12 +1,11 @@
 -- The process `run`, whose channels are services.
 use Rattle.std.specs.Prelude.{ℕ, ◌+◌, Bool, true, false, ◌&&◌, List, [], ◌∷◌, ◌++◌, Option, Some, None, if◌then◌else◌, nat_le, map, length, codes}
-use Rattle.campl_tree.specs.declared.place.Place.{Place}
 use Rattle.campl_tree.specs.declared.place.Ident.{Ident}
 use Rattle.campl_tree.specs.declared.service.Side.{Side}
 use Rattle.campl_tree.specs.declared.service.Side.TheVariants.{Input, Output}
 use Rattle.campl_tree.specs.declared.service.ServiceName.{ServiceName}
-use Rattle.campl_tree.specs.Plain.SeqType.{SeqTypes, no_types, type_then}
-use Rattle.campl_tree.specs.Plain.ChanType.{ChanType, Put, Get, Tensor, Par, TopBot, Neg, Named}
+use Rattle.campl_tree.specs.Plain.SeqType.{no_types}
+use Rattle.campl_tree.specs.Plain.ChanType.{ChanType, Named}
 use Rattle.campl_tree.specs.Plain.Decl.{ProcessDecl}
 use Rattle.campl_types.specs.declared.fault.NameFault.{NameFault}
 use Rattle.campl_types.specs.declared.fault.NameFault.TheVariants.{NoRun, RunNotService}
@@ -17,15 +16,15 @@ use Rattle.campl_types.specs.World.{World, process_named}
 abbrev pub most_services : ℕ
 most_services = 16
 
-abbrev is_type_named : Name → ChanType → Bool
+abbrev pub is_type_named : Name → ChanType → Bool
 is_type_named x (Named at y no_types) = same_name x y
 is_type_named x _ = false
 
-abbrev all : (ChanType → Bool) → List ChanType → Bool
+abbrev pub all : (ChanType → Bool) → List ChanType → Bool
 all f [] = true
 all f (t ∷ ts) = f t && all f ts
 
-abbrev is_empty : {A : Type 0} → List A → Bool
+abbrev pub is_empty : {A : Type 0} → List A → Bool
 is_empty [] = true
 is_empty (x ∷ xs) = false
 
@@ -35,14 +34,17 @@ has_services_alone p =
     is_empty p.parameters && all (is_type_named (codes "Console")) p.inputs && all (is_type_named (codes "StringTerminal")) p.outputs
     && nat_le (length p.inputs + length p.outputs) most_services
 
+abbrev pub heading_faults : ProcessDecl → List NameFault
+heading_faults p = if has_services_alone p then [] else RunNotService p.name.place ∷ []
+
 abbrev judged : Option ProcessDecl → List NameFault
 judged None = NoRun (record { line = 1; column = 1 }) ∷ []
-judged (Some p) = if has_services_alone p then [] else RunNotService p.name.place ∷ []
+judged (Some p) = heading_faults p
 
 abbrev pub run_faults : World → List NameFault
 run_faults w = judged (process_named w (codes "run"))
 
-abbrev service : Side → Ident → ServiceName
+abbrev pub service : Side → Ident → ServiceName
 service side x = record { name = x.name; side = side }
 
 abbrev services_in : Option ProcessDecl → List ServiceName

@@ -8,7 +8,7 @@
 -- A call of a function or constructor has arguments for its type parameters. Its parts are judged in
 -- order. A part is checked where each parameter of its type is known already, by the result if the
 -- call is checked, or by an earlier part; else it is found, and makes the parameters of its type known.
-use Rattle.std.specs.Prelude.{◌≡◌, ℕ, IsTrue, List, [], ◌∷◌, ◌++◌, Option, Some, None, if◌then◌else◌, map, length}
+use Rattle.std.specs.Prelude.{◌≡◌, ℕ, IsTrue, List, [], ◌∷◌, ◌++◌, Some, None, if◌then◌else◌, map, length}
 use Rattle.campl_tree.specs.Plain.SeqType.{SeqType, SeqTypes, Int, Char, Bool, Named, Variable}
 use Rattle.campl_tree.specs.Plain.SeqType as s
 use Rattle.campl_tree.specs.Plain.Expr as e

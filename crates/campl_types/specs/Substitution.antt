@@ -1,5 +1,5 @@
 -- Type parameters, and types in which they are replaced.
-use Rattle.std.specs.Prelude.{List, [], ◌∷◌, ◌++◌, Option, Some, None, unwrap_or}
+use Rattle.std.specs.Prelude.{List, [], ◌∷◌, ◌++◌, unwrap_or}
 use Rattle.campl_tree.specs.Plain.SeqType.{SeqType, SeqTypes, Int, Char, Bool, Pair, Named, Variable, no_types, type_then}
 use Rattle.campl_tree.specs.Plain.SeqType as s
 use Rattle.campl_types.specs.Names.{Name, found}

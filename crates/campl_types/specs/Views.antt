@@ -1,14 +1,13 @@
 -- How a channel is seen from one of its sides, and what that view takes of what is sent on the other.
-use Rattle.std.specs.Prelude.{◌≡◌, ℕ, List, [], ◌∷◌, Option, Some, None, slice_get}
+use Rattle.std.specs.Prelude.{◌≡◌, ℕ, List, [], ◌∷◌, Some, slice_get}
 use Rattle.campl_tree.specs.declared.service.Side.{Side}
-use Rattle.campl_tree.specs.declared.service.Side.TheVariants.{Input, Output}
+use Rattle.campl_tree.specs.declared.service.Side.TheVariants.{Input}
 use Rattle.campl_tree.specs.Side.{opposite}
-use Rattle.campl_tree.specs.Plain.SeqType.{SeqType}
 use Rattle.campl_tree.specs.Plain.ChanType.{ChanType, Put, Get, Tensor, Par, TopBot, Neg, Named}
 use Rattle.campl_value.specs.Tree.{Tree}
 use Rattle.campl_types.specs.Names.{Name}
 use Rattle.campl_types.specs.World.{World}
-use Rattle.campl_types.specs.Polarity.{Deed, Puts, Gets, Forks, Splits, Picks, Offers, Ends, IsLinked, Choices, deed}
+use Rattle.campl_types.specs.Polarity.{Deed, Gets, Splits, Offers, IsLinked, Choices, deed}
 use Rattle.campl_types.specs.Values.{IsValue}
 
 -- a type on a side, or nothing more

@@ -1,6 +1,6 @@
 -- What is declared, by name. There are three spaces of declared names: types (data, protocols and
 -- coprotocols), constructors (of all three together), and lower names (functions and processes).
-use Rattle.std.specs.Prelude.{ℕ, zero, suc, Bool, List, [], ◌∷◌, ◌++◌, Option, Some, None, if◌then◌else◌, map, length}
+use Rattle.std.specs.Prelude.{ℕ, suc, Bool, List, [], ◌∷◌, ◌++◌, Option, Some, None, if◌then◌else◌, map}
 use Rattle.campl_tree.specs.declared.place.Ident.{Ident}
 use Rattle.campl_tree.specs.Plain.Decl.{Program, Decl, Data, Protocol, Coprotocol, Function, Process, DataDecl, DataConstructor, ProtocolDecl, ProtocolConstructor, CoprotocolDecl, CoprotocolConstructor, FunctionDecl, ProcessDecl}
 use Rattle.campl_tree.specs.Plain.SeqType.{SeqType}

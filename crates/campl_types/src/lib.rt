@@ -2,8 +2,10 @@
 //!
 //! The definitions of the language up to its typing stand in `specs/`, over the plain trees of
 //! `campl_tree`, in the order of the language's rules: names and types, the prelude, what is declared,
-//! polarity, patterns, expressions, processes. [`NameFault`] is a refusal of the phase that judges names,
-//! and [`Act`] an entry of the polarity table. A channel of type `Put(Int | TopBot)` gives
+//! polarity, patterns, expressions, processes. [`declare`] judges the names of a program and gives its
+//! [`World`], which finds what is declared by a name; [`NameFault`] is its refusal. [`services`] reads the
+//! channels of `run` from a world, and [`allowed`] an entry of the polarity table, an [`Act`]. A channel of
+//! type `Put(Int | TopBot)` gives
 //!
 //! ```text
 //! on the output side: Act::Put, on the input side: Act::Get
@@ -13,10 +15,26 @@
 mod act;
 mod ends;
 mod fault;
+mod judge;
+mod judge_bodies;
+mod judge_decls;
+mod judge_exprs;
+mod judge_types;
+mod name_set;
+mod polarity;
+mod prelude;
+mod run;
 mod same;
+mod table;
+mod tables;
 #[cfg(test)]
 mod tests;
+mod world;
 
 pub use act::Act;
 pub use ends::partners;
 pub use fault::NameFault;
+pub use judge::declare;
+pub use polarity::allowed;
+pub use run::{RunServices, services};
+pub use world::{ConstructorRef, LowerRef, TypeRef, World};

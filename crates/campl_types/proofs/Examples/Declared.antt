@@ -1,11 +1,10 @@
 -- Worked faults of names.
-use Rattle.std.proofs.Common.{◌≡◌, refl, ℕ, zero, suc, List, [], ◌∷◌, ◌++◌, Some, None, codes}
+use Rattle.std.proofs.Common.{◌≡◌, refl, ℕ, zero, suc, List, [], ◌∷◌, Some, None, codes}
 use Rattle.campl_tree.specs.declared.place.Ident.{Ident}
 use Rattle.campl_tree.specs.declared.process.Binder.TheVariants as binder
-use Rattle.campl_tree.specs.declared.service.Side.TheVariants.{Input, Output}
+use Rattle.campl_tree.specs.declared.service.Side.TheVariants.{Input}
 use Rattle.campl_tree.specs.Plain.SeqType as s
 use Rattle.campl_tree.specs.Plain.ChanType as c
-use Rattle.campl_tree.specs.Plain.Pattern as p
 use Rattle.campl_tree.specs.Plain.Expr as e
 use Rattle.campl_tree.specs.Plain.Process as b
 use Rattle.campl_tree.specs.Plain.Decl as d

@@ -1,15 +1,15 @@
 -- Missing patterns, and values against patterns.
-use Rattle.std.proofs.Common.{◌≡◌, refl, pos, List, [], ◌∷◌, Some, None, true, false, codes}
+use Rattle.std.proofs.Common.{◌≡◌, refl, pos, [], ◌∷◌, Some, None, true, false, codes}
 use Rattle.campl_tree.specs.Plain.SeqType as s
 use Rattle.campl_tree.specs.Plain.Pattern as p
 use Rattle.campl_value.specs.Tree as v
-use Rattle.campl_types.specs.Forms.{Form, Anything, Variable, Number, Truth, Nil, Cons, Pair, Built, Character, none, more, form_of}
+use Rattle.campl_types.specs.Forms.{Anything, Variable, Number, Truth, Nil, Cons, Built, Character, none, more, form_of}
 use Rattle.campl_types.specs.Fits.{fits}
 use Rattle.campl_types.specs.Matching.{matched, first_match}
 use Rattle.campl_types.specs.Missing.{missing}
 use Rattle.campl_types.specs.Prelude.{prelude}
 use Rattle.campl_types.specs.World.{World, world_of}
-use Rattle.campl_types.proofs.Examples.Sources.{place, ident, named, data_decl, constructor}
+use Rattle.campl_types.proofs.Examples.Sources.{place, ident, data_decl, constructor}
 
 -- data Maybe(a) where
 --     None

@@ -8,17 +8,16 @@
 --         x : _ -> Just(x)
 --     fun size :: [a] -> Int where
 --         _ -> 0
-use Rattle.std.proofs.Common.{◌≡◌, refl, sym, subst, pos, List, [], ◌∷◌, Some, None, codes}
+use Rattle.std.proofs.Common.{◌≡◌, refl, sym, subst, pos, [], ◌∷◌, Some, codes}
 use Rattle.campl_tree.specs.Plain.SeqType as s
 use Rattle.campl_tree.specs.Plain.SeqType.{SeqType}
 use Rattle.campl_tree.specs.Plain.Pattern as p
 use Rattle.campl_tree.specs.Plain.Expr as e
 use Rattle.campl_tree.specs.Plain.Decl as d
-use Rattle.campl_types.specs.Names.{Name}
 use Rattle.campl_types.specs.World.{World, world_of, type_parameters}
 use Rattle.campl_types.specs.Sequential.{IsFoundToHave, MayBeChecked, FunctionIsTyped, PartsHaveTypes}
 use Rattle.campl_types.specs.Substitution.{filling}
-use Rattle.campl_types.proofs.Examples.Sources.{place, ident, named, data_decl, constructor}
+use Rattle.campl_types.proofs.Examples.Sources.{place, ident, data_decl, constructor}
 
 abbrev a : SeqType
 a = s.Variable (place 1 1) (codes "a")

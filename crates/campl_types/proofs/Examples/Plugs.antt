@@ -9,21 +9,21 @@
 --             close c
 --             hput ConsoleClose on k
 --             halt k
-use Rattle.std.proofs.Common.{◌≡◌, ◌∙◌, ◌⊎◌, inl, inr, refl, sym, subst, pos, zero-le, suc-le-suc, arith, Bool, true, false, ◌||◌, List, [], ◌∷◌, Some, None, codes, if◌then◌else◌}
+use Rattle.std.proofs.Common.{◌≡◌, ◌∙◌, ◌⊎◌, inl, inr, refl, sym, subst, pos, arith, Bool, true, false, ◌||◌, List, [], ◌∷◌, Some, None, codes}
 use Rattle.campl_tree.specs.declared.place.Ident.{Ident}
 use Rattle.campl_tree.specs.declared.process.Binder.TheVariants as binder
 use Rattle.campl_tree.specs.declared.service.Side.TheVariants.{Input, Output}
 use Rattle.campl_tree.specs.Plain.SeqType as s
-use Rattle.campl_tree.specs.Plain.ChanType.{ChanType, Put, TopBot}
+use Rattle.campl_tree.specs.Plain.ChanType.{Put, TopBot}
 use Rattle.campl_tree.specs.Plain.Expr as e
 use Rattle.campl_tree.specs.Plain.Process as b
 use Rattle.campl_types.specs.Names.{Name, same_name, is_among}
 use Rattle.campl_types.specs.Prelude.{prelude}
-use Rattle.campl_types.specs.Held.{Held, Channel, On, nothing_held, with, HoldsOnly}
+use Rattle.campl_types.specs.Held.{Held, On, nothing_held, with, HoldsOnly}
 use Rattle.campl_types.specs.Headers.{links_in, Divide, IsUsed, times_in, times_out, share}
 use Rattle.campl_types.specs.Linear.{IsWellFormed}
 use Rattle.campl_types.proofs.Names.{same-turned, split-names}
-use Rattle.campl_types.proofs.Examples.Sources.{place, ident, named, protocol}
+use Rattle.campl_types.proofs.Examples.Sources.{place, ident, protocol}
 
 abbrev c : Ident
 c = ident 1 6 (codes "c")

@@ -1,13 +1,13 @@
 -- The polarity table at work, on the prelude's protocols.
-use Rattle.std.proofs.Common.{◌≡◌, refl, pos, inl, inr, List, [], ◌∷◌, Some, None, codes}
+use Rattle.std.proofs.Common.{◌≡◌, refl, pos, inl, [], ◌∷◌, Some, None, codes}
 use Rattle.campl_tree.specs.declared.service.Side.TheVariants.{Input, Output}
 use Rattle.campl_tree.specs.Plain.SeqType as s
 use Rattle.campl_tree.specs.Plain.ChanType.{ChanType, Put, Get, Tensor, Par, TopBot, Neg, Named}
 use Rattle.campl_types.specs.declared.act.Act.TheVariants as act
-use Rattle.campl_types.specs.Polarity.{Deed, Puts, Gets, Forks, Splits, Picks, Offers, Ends, IsLinked, deed, allowed, after, ArePartners}
+use Rattle.campl_types.specs.Polarity.{Puts, Gets, Forks, Splits, deed, allowed, after, ArePartners}
 use Rattle.campl_types.specs.SameType.{nowhere, IsSame}
 use Rattle.campl_types.specs.Substitution.{filled}
-use Rattle.campl_types.specs.Views.{As, view_of, Takes, Word, Pick, TwoEnds}
+use Rattle.campl_types.specs.Views.{As, view_of, Takes, Word}
 use Rattle.campl_types.specs.Prelude.{prelude}
 use Rattle.campl_types.specs.World.{World, world_of}
 use Rattle.campl_value.specs.Tree as v

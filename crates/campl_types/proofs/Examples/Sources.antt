@@ -1,10 +1,9 @@
 -- Short ways to write plain trees down.
-use Rattle.std.proofs.Common.{ℕ, suc, List, [], ◌∷◌, Some, None, codes}
+use Rattle.std.proofs.Common.{ℕ, suc, List, [], None, codes}
 use Rattle.campl_tree.specs.declared.place.Place.{Place}
 use Rattle.campl_tree.specs.declared.place.Ident.{Ident}
 use Rattle.campl_tree.specs.Plain.SeqType as s
 use Rattle.campl_tree.specs.Plain.ChanType as c
-use Rattle.campl_tree.specs.Plain.Expr as e
 use Rattle.campl_tree.specs.Plain.Process as b
 use Rattle.campl_tree.specs.Plain.Decl as d
 use Rattle.campl_types.specs.Names.{Name}

@@ -1,19 +1,18 @@
 -- Worked derivations of typing.
-use Rattle.std.proofs.Common.{◌≡◌, ◌∙◌, if◌then◌else◌, refl, sym, pos, Bool, true, false, ◌||◌, List, [], ◌∷◌, Some, None, codes}
+use Rattle.std.proofs.Common.{◌≡◌, ◌∙◌, if◌then◌else◌, refl, pos, Bool, true, false, ◌||◌, [], ◌∷◌, Some, None, codes}
 use Rattle.campl_tree.specs.declared.service.Side.TheVariants.{Input, Output}
 use Rattle.campl_tree.specs.Plain.SeqType as s
 use Rattle.campl_tree.specs.Plain.SeqType.{SeqType}
-use Rattle.campl_tree.specs.Plain.ChanType.{ChanType, Put, Get, Tensor, Par, TopBot, Neg}
+use Rattle.campl_tree.specs.Plain.ChanType.{ChanType, Tensor, TopBot}
 use Rattle.campl_tree.specs.Plain.Expr as e
 use Rattle.campl_tree.specs.Plain.Process as b
 use Rattle.campl_types.specs.Names.{Name, same_name, is_among}
 use Rattle.campl_types.specs.Prelude.{prelude}
-use Rattle.campl_types.specs.World.{World}
-use Rattle.campl_types.specs.Held.{Held, Channel, On, nothing_held, with, HoldsOnly}
+use Rattle.campl_types.specs.Held.{Held, On, nothing_held, with}
 use Rattle.campl_types.specs.Sequential.{IsFoundToHave, MayBeChecked}
 use Rattle.campl_types.specs.Linear.{IsWellFormed}
 use Rattle.campl_types.proofs.Names.{same-turned}
-use Rattle.campl_types.proofs.Examples.Sources.{place, ident, named, protocol}
+use Rattle.campl_types.proofs.Examples.Sources.{place, ident, protocol}
 
 -- 1 : []
 one-item : MayBeChecked prelude [] (e.Cons (place 1 1) (e.Number (place 1 1) (pos 1)) (e.List (place 1 5) e.no_exprs)) (s.List s.Int)
