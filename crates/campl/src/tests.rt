@@ -145,10 +145,44 @@ fn refuses_sources_with_faults(rt: HostRuntime) -> Result<(), Fail> {
 }
 
 #[test]
+fn refuses_names(rt: HostRuntime) -> Result<(), Fail> {
+    let table = [
+        ("", "campl: E23 NoRun at 1:1\n"),
+        (
+            "data D where\n    A\n    A\nfun f :: -> E where\n    -> 1\n",
+            "campl: E20 Twice at 3:5: name A\n",
+        ),
+        (
+            "data Console where\n    A\n",
+            "campl: E20 Twice at 1:6: name Console\n",
+        ),
+        (
+            "fun f :: Int -> Int where\n    x -> y\n",
+            "campl: E21 Unknown at 2:10: name y\n",
+        ),
+        (
+            "fun f :: Int -> Console where\n    x -> y\n",
+            "campl: E22 WrongKind at 1:17: name Console\n",
+        ),
+        (
+            "protocol Box(a) => S where\n    Nil :: TopBot => S\nproc run :: | => where\n    | => -> plug c :: Box of\n        => c -> halt c\n        c => -> halt c\n",
+            "campl: E25 TypeArguments at 4:23: found 0, wanted 1\n",
+        ),
+        (
+            "proc run :: Int | Console => where\n    x | c => -> halt c\n",
+            "campl: E24 RunNotService at 1:6\n",
+        ),
+    ];
+    for (source, line) in table {
+        assert!(rt; is_refused(&rt, rt.alloc(), source, line)?, "of {source}");
+    }
+    Ok(())
+}
+
+#[test]
 fn refuses_what_does_not_run_yet(rt: HostRuntime) -> Result<(), Fail> {
     let line = "campl: E60 NotBuilt at 1:1\n";
     for source in [
-        "",
         "proc run :: | => where\n    | => -> halt\n",
         "proc run :: | Console => where\n    | c => -> do\n        hput ConsoleGet on c\n        halt c\n",
         "proc run :: | Console => where\n    | c => -> do\n        hput ConsoleClose on c\n        halt d\n",
@@ -217,7 +251,7 @@ fn repeated(alloc: Global, byte: u8, count: usize) -> Result<Vec<u8>, AllocError
 fn refuses_long_sources(rt: HostRuntime) -> Result<(), Fail> {
     let longest = repeated(rt.alloc(), b' ', 1_048_576)?;
     let answer = run_source(&rt, rt.alloc(), &longest)?;
-    assert!(rt; answer.err.bytes() == b"campl: E60 NotBuilt at 1:1\n".as_slice());
+    assert!(rt; answer.err.bytes() == b"campl: E23 NoRun at 1:1\n".as_slice());
     let longer = repeated(rt.alloc(), b' ', 1_048_577)?;
     let answer = run_source(&rt, rt.alloc(), &longer)?;
     assert_eq!(rt; answer.report.status, 3);

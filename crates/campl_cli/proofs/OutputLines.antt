@@ -48,5 +48,5 @@ first_is xs i x within is =
     ap (λ y. y ∷ drop (i + 1) xs) is ∙ (ap (λ n. get_or xs i x ∷ drop n xs) (let k : i + 1 ≡ suc i = omega arith in k) ∙ sym (drop-cons xs i x within))
 
 -- brackets to the right and to the left
-pub six_parts : {A : Type 0} (a b c d e f g : List A) → a ++ (b ++ (c ++ (d ++ (e ++ (f ++ g))))) ≡ a ++ ((b ++ (c ++ (d ++ (e ++ f)))) ++ g)
-six_parts a b c d e f g = simp append_assoc
+pub seven_parts : {A : Type 0} (a b c d e f g h : List A) → a ++ (b ++ (c ++ (d ++ (e ++ (f ++ (g ++ h)))))) ≡ a ++ ((b ++ (c ++ (d ++ (e ++ (f ++ g))))) ++ h)
+seven_parts a b c d e f g h = simp append_assoc

@@ -1,5 +1,5 @@
 -- A fault of tokens or of layout is the text's first fault.
-use Rattle.std.proofs.Common.{◌≡◌, ◌≢◌, ℕ, Bool, true, false, if◌then◌else◌, List, [], ◌∷◌, length, Option, Some, None, Ok, Err, subst}
+use Rattle.std.proofs.Common.{inl, inr, refl, ◌⊎◌, ◌≡◌, ◌≢◌, ℕ, Bool, true, false, if◌then◌else◌, List, [], ◌∷◌, length, Option, Some, None, Ok, Err, subst}
 use Rattle.std.specs.Prelude.{chars, Result, ◌&&◌, ◌==◌, nat_lt}
 use Rattle.campl_tree.specs.declared.place.Place.{Place}
 use Rattle.campl_lex.specs.declared.token.Token.{Token}
@@ -13,7 +13,13 @@ use Rattle.campl_lex.specs.declared.stack.Enclosure.{Enclosure}
 use Rattle.campl_lex.specs.declared.stack.Enclosure.TheVariants.{Block, Bracket}
 use Rattle.campl_lex.specs.Enclosure.{has_bracket, nearest}
 use Rattle.campl_lex.specs.Layout.{laid_out, laid, adds, Put, onto, andThen, separated, closing, is_closing_bracket, is_block_word, text_of, before, block_opened, aligned, follow, behind, opens_last, first_brace}
-use Rattle.campl_cli.specs.Source.{HasTokens, end_of, refusal_of_lexing, IsSourceRefusal}
+use Rattle.campl_tree.specs.Plain.Decl as d
+use Rattle.campl_types.specs.declared.fault.NameFault.{NameFault}
+use Rattle.campl_types.specs.declared.fault.NameFault.TheVariants as naming
+use Rattle.campl_types.specs.Judges.{Judges}
+use Rattle.campl_types.specs.Judges as judge
+use Rattle.campl_types.specs.WellDeclared.{name_faults}
+use Rattle.campl_cli.specs.Source.{HasTokens, end_of, refusal_of_lexing, IsSourceRefusal, refusal_of_naming, IsRefusedForNames}
 
 -- a fault that tokens have
 abbrev IsOfTokens : LexFault → Type 0
@@ -54,14 +60,14 @@ fine_lexes (says.takes {s} w rest {r} t h) = fine_adds (says.token s w ∷ []) r
 fine_lexes (says.fails o) = fine_offends o
 
 pub lexing_refuses : (text : List ℕ) (f : LexFault) → (f ≢ lexing.OutOfMemory → Lexes first_spot (chars text) (Err f)) → IsSourceRefusal text (refusal_of_lexing f)
-lexing_refuses text (lexing.BadCharacter at) h = h (λ e. cc)
-lexing_refuses text (lexing.OpenString at) h = h (λ e. cc)
-lexing_refuses text (lexing.BadEscape at) h = h (λ e. cc)
-lexing_refuses text (lexing.NumberTooLarge at) h = h (λ e. cc)
-lexing_refuses text (lexing.NameTooLong at) h = h (λ e. cc)
-lexing_refuses text (lexing.Tab at) h = h (λ e. cc)
+lexing_refuses text (lexing.BadCharacter at) h = inl (refl, h (λ e. cc))
+lexing_refuses text (lexing.OpenString at) h = inl (refl, h (λ e. cc))
+lexing_refuses text (lexing.BadEscape at) h = inl (refl, h (λ e. cc))
+lexing_refuses text (lexing.NumberTooLarge at) h = inl (refl, h (λ e. cc))
+lexing_refuses text (lexing.NameTooLong at) h = inl (refl, h (λ e. cc))
+lexing_refuses text (lexing.Tab at) h = inl (refl, h (λ e. cc))
 lexing_refuses text (lexing.BadColumn at) h = absurd (fine_lexes (h (λ e. cc)))
-lexing_refuses text (lexing.TextTooLong at) h = h (λ e. cc)
+lexing_refuses text (lexing.TextTooLong at) h = inl (refl, h (λ e. cc))
 lexing_refuses text lexing.OutOfMemory h = tt
 
 -- ---- layout
@@ -137,6 +143,55 @@ layout_refuses text tokens f has h = by f h (λ e. subst OnlyColumn (h e) (colum
     by (lexing.NumberTooLarge at) h k = absurd (k (λ e. cc))
     by (lexing.NameTooLong at) h k = absurd (k (λ e. cc))
     by (lexing.Tab at) h k = absurd (k (λ e. cc))
-    by (lexing.BadColumn at) h k = (tokens, has, h (λ e. cc))
+    by (lexing.BadColumn at) h k = inl (refl, (tokens, has, h (λ e. cc)))
     by (lexing.TextTooLong at) h k = absurd (k (λ e. cc))
     by lexing.OutOfMemory h k = tt
+
+-- ---- names
+
+-- the first of these faults, where it isn't want of memory
+abbrev pub Judged : List NameFault → NameFault → Type 0
+Judged faults (naming.Twice at x) = (more : List NameFault) × (faults ≡ naming.Twice at x ∷ more)
+Judged faults (naming.Unknown at x) = (more : List NameFault) × (faults ≡ naming.Unknown at x ∷ more)
+Judged faults (naming.WrongKind at x) = (more : List NameFault) × (faults ≡ naming.WrongKind at x ∷ more)
+Judged faults (naming.TypeArguments at found wanted) = (more : List NameFault) × (faults ≡ naming.TypeArguments at found wanted ∷ more)
+Judged faults (naming.NoRun at) = (more : List NameFault) × (faults ≡ naming.NoRun at ∷ more)
+Judged faults (naming.RunNotService at) = (more : List NameFault) × (faults ≡ naming.RunNotService at ∷ more)
+Judged faults naming.OutOfMemory = Unit {0}
+
+-- a judgement that refuses has the first fault
+judged_of : (faults : List NameFault) (fault : NameFault) → (more : List NameFault) → faults ≡ fault ∷ more → Judged faults fault
+judged_of faults (naming.Twice at x) more e = (more, e)
+judged_of faults (naming.Unknown at x) more e = (more, e)
+judged_of faults (naming.WrongKind at x) more e = (more, e)
+judged_of faults (naming.TypeArguments at found wanted) more e = (more, e)
+judged_of faults (naming.NoRun at) more e = (more, e)
+judged_of faults (naming.RunNotService at) more e = (more, e)
+judged_of faults naming.OutOfMemory more e = tt
+
+abbrev Refused : {A : Type 0} → List NameFault → Result A NameFault → Type 0
+Refused faults (Ok x) = faults ≡ []
+Refused faults (Err fault) = Judged faults fault
+
+refused : {A : Type 0} (faults : List NameFault) (r : Result A NameFault) → Judges faults r → Refused faults r
+refused [] (Ok x) judge.passes = refl
+refused {A = A} (fault ∷ more) (Ok x) h = elim h [ ]
+refused (fault ∷ more) (Err fault2) judge.refuses = judged_of (fault ∷ more) fault more refl
+refused faults (Err naming.OutOfMemory) judge.starves = tt
+
+-- a judgement that passes finds no fault
+pub passed : {A : Type 0} (faults : List NameFault) (x : A) → Judges faults (let r : Result A NameFault = Ok x in r) → faults ≡ []
+passed faults x h = refused faults (Ok x) h
+
+pub refuses : {A : Type 0} (faults : List NameFault) (fault : NameFault) → Judges faults (let r : Result A NameFault = Err fault in r) → Judged faults fault
+refuses faults fault h = refused faults (Err fault) h
+
+-- what is told of names is their first fault
+pub naming_refuses : (program : d.Program) (fault : NameFault) → Judged (name_faults program) fault → IsRefusedForNames program (refusal_of_naming fault)
+naming_refuses program (naming.Twice at x) h = (naming.Twice at x, h, refl)
+naming_refuses program (naming.Unknown at x) h = (naming.Unknown at x, h, refl)
+naming_refuses program (naming.WrongKind at x) h = (naming.WrongKind at x, h, refl)
+naming_refuses program (naming.TypeArguments at found wanted) h = (naming.TypeArguments at found wanted, h, refl)
+naming_refuses program (naming.NoRun at) h = (naming.NoRun at, h, refl)
+naming_refuses program (naming.RunNotService at) h = (naming.RunNotService at, h, refl)
+naming_refuses program naming.OutOfMemory h = tt

@@ -1,8 +1,10 @@
 -- The faults of a source, and how they are printed.
-use Rattle.std.specs.Prelude.{ℕ, List, ◌++◌, codes}
+use Rattle.std.specs.Prelude.{ℕ, List, [], ◌++◌, codes, encode_utf8_all}
 use Rattle.std.specs.Fmt.{decimal}
 use Rattle.campl_cli.specs.declared.fault.FaultKind.{FaultKind}
-use Rattle.campl_cli.specs.declared.fault.FaultKind.TheVariants.{BadCharacter, OpenString, BadEscape, NumberTooLarge, NameTooLong, Tab, BadColumn, TextTooLong, Unexpected, TooDeep}
+use Rattle.campl_cli.specs.declared.fault.FaultKind.TheVariants.{BadCharacter, OpenString, BadEscape, NumberTooLarge, NameTooLong, Tab, BadColumn, TextTooLong, Unexpected, TooDeep, Twice, Unknown, WrongKind, NoRun, RunNotService, TypeArguments}
+use Rattle.campl_cli.specs.declared.fault.Detail.{Detail}
+use Rattle.campl_cli.specs.declared.fault.Detail.TheVariants.{Nothing, Named, Counted}
 use Rattle.campl_cli.specs.declared.fault.SourceFault.{SourceFault}
 
 -- the number and the name of a fault
@@ -17,7 +19,19 @@ code_of BadColumn = codes "E07 BadColumn"
 code_of TextTooLong = codes "E08 TextTooLong"
 code_of Unexpected = codes "E10 Unexpected"
 code_of TooDeep = codes "E11 TooDeep"
+code_of Twice = codes "E20 Twice"
+code_of Unknown = codes "E21 Unknown"
+code_of WrongKind = codes "E22 WrongKind"
+code_of NoRun = codes "E23 NoRun"
+code_of RunNotService = codes "E24 RunNotService"
+code_of TypeArguments = codes "E25 TypeArguments"
 
--- a fault as its line tells it: `E02 OpenString at 4:13`
+-- what is told beside the place
+abbrev pub words_of_detail : Detail → List ℕ
+words_of_detail Nothing = []
+words_of_detail (Named x) = codes ": name " ++ encode_utf8_all x
+words_of_detail (Counted found wanted) = codes ": found " ++ (decimal found ++ (codes ", wanted " ++ decimal wanted))
+
+-- a fault as its line tells it: `E02 OpenString at 4:13`, `E21 Unknown at 2:9: name x`
 abbrev pub words_of_fault : SourceFault → List ℕ
-words_of_fault f = code_of f.kind ++ (codes " at " ++ (decimal f.place.line ++ (codes ":" ++ decimal f.place.column)))
+words_of_fault f = code_of f.kind ++ (codes " at " ++ (decimal f.place.line ++ (codes ":" ++ (decimal f.place.column ++ words_of_detail f.detail))))

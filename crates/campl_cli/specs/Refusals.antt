@@ -9,7 +9,7 @@ use Rattle.campl_cli.specs.declared.refusal.Refusal.{Refusal}
 use Rattle.campl_cli.specs.declared.refusal.Refusal.TheVariants.{BadCommandLine, ReadFault, TooLong, NotUtf8, Source, NotBuilt, OutOfMemory}
 use Rattle.campl_cli.specs.Faults.{words_of_fault}
 use Rattle.campl_cli.specs.Form.{Prints, IsFormOf}
-use Rattle.campl_cli.specs.Source.{HasTree, IsSourceFault}
+use Rattle.campl_cli.specs.Source.{HasNames, IsSourceFault}
 use Rattle.campl_cli.specs.Words.{IsCommand}
 
 -- the most bytes that a source has
@@ -56,14 +56,14 @@ files holds faults old new = record { held = holds old; before = faults old; aft
 abbrev pub IsText : List ℕ → List ℕ → Type 0
 IsText contents text = IsReading contents source_limit (Ok text)
 
--- the text has a tree of the form, and prints this
+-- the text has a tree of the form, which is well declared, and prints this
 abbrev pub PrintsText : List ℕ → Prints → Type 0
-PrintsText text p = (program : Program) × HasTree text program × IsFormOf p program
+PrintsText text p = (program : Program) × HasNames text program × IsFormOf p program
 
--- when a text is refused so: it has no tree, or a tree of another form; want of memory alone comes freely
+-- when a text is refused so: it has a fault, or is of another form; want of memory alone comes freely
 abbrev pub IsRefusedText : List ℕ → Refusal → Type 0
 IsRefusedText text (Source fault) = IsSourceFault text fault
-IsRefusedText text NotBuilt = (program : Program) × HasTree text program × ((p : Prints) → IsFormOf p program → ⊥)
+IsRefusedText text NotBuilt = (program : Program) × HasNames text program × ((p : Prints) → IsFormOf p program → ⊥)
 IsRefusedText text OutOfMemory = ⊤
 IsRefusedText text BadCommandLine = ⊥
 IsRefusedText text TooLong = ⊥

@@ -1,5 +1,5 @@
--- What a source is: its tokens, their layout, and the tree of its words; or its first fault.
-use Rattle.std.specs.Prelude.{◌≡◌, ℕ, List, Ok, Err, chars, ⊤}
+-- What a source is: its tokens, their layout, the tree of its words, and names that are well declared; or its first fault.
+use Rattle.std.specs.Prelude.{◌≡◌, ◌⊎◌, Option, Some, None, ℕ, List, [], ◌∷◌, ◌++◌, Ok, Err, chars, ⊤}
 use Rattle.campl_tree.specs.declared.place.Place.{Place}
 use Rattle.campl_tree.specs.declared.decl.Program.{Program}
 use Rattle.campl_lex.specs.declared.token.Token.{Token}
@@ -17,7 +17,13 @@ use Rattle.campl_cli.specs.declared.fault.SourceFault.{SourceFault}
 use Rattle.campl_cli.specs.declared.refusal.Refusal.{Refusal}
 use Rattle.campl_cli.specs.declared.refusal.Refusal.TheVariants.{BadCommandLine, ReadFault, TooLong, NotUtf8, Source, NotBuilt, OutOfMemory}
 use Rattle.campl_cli.specs.declared.fault.FaultKind.{FaultKind}
-use Rattle.campl_cli.specs.declared.fault.FaultKind.TheVariants.{BadCharacter, OpenString, BadEscape, NumberTooLarge, NameTooLong, Tab, BadColumn, TextTooLong, Unexpected, TooDeep}
+use Rattle.campl_cli.specs.declared.fault.FaultKind.TheVariants.{BadCharacter, OpenString, BadEscape, NumberTooLarge, NameTooLong, Tab, BadColumn, TextTooLong, Unexpected, TooDeep, Twice, Unknown, WrongKind, NoRun, RunNotService, TypeArguments}
+use Rattle.campl_cli.specs.declared.fault.Detail.TheVariants.{Nothing, Named, Counted}
+use Rattle.campl_tree.specs.View.{view_program}
+use Rattle.campl_tree.specs.Plain.Decl as d
+use Rattle.campl_types.specs.declared.fault.NameFault.{NameFault}
+use Rattle.campl_types.specs.declared.fault.NameFault.TheVariants as naming
+use Rattle.campl_types.specs.WellDeclared.{name_faults, IsWellDeclared}
 
 -- the text has these tokens
 abbrev pub HasTokens : List ℕ → List Token → Type 0
@@ -39,32 +45,57 @@ HasTree text program = (laid : List Token) × HasLayout text laid × parsing.Has
 abbrev pub HasNoTree : List ℕ → (List Word → List Word → Type 0) → Place → Type 0
 HasNoTree text is at = (laid : List Token) × HasLayout text laid × parsing.StandsAt is (words text laid) at
 
--- the text's first fault
-abbrev pub IsFirstFault : List ℕ → FaultKind → Place → Type 0
-IsFirstFault text BadCharacter at = Lexes first_spot (chars text) (Err (lexing.BadCharacter at))
-IsFirstFault text OpenString at = Lexes first_spot (chars text) (Err (lexing.OpenString at))
-IsFirstFault text BadEscape at = Lexes first_spot (chars text) (Err (lexing.BadEscape at))
-IsFirstFault text NumberTooLarge at = Lexes first_spot (chars text) (Err (lexing.NumberTooLarge at))
-IsFirstFault text NameTooLong at = Lexes first_spot (chars text) (Err (lexing.NameTooLong at))
-IsFirstFault text Tab at = Lexes first_spot (chars text) (Err (lexing.Tab at))
-IsFirstFault text TextTooLong at = Lexes first_spot (chars text) (Err (lexing.TextTooLong at))
-IsFirstFault text BadColumn at = (tokens : List Token) × HasTokens text tokens × (laid_out text (end_of text) tokens ≡ Err (lexing.BadColumn at))
-IsFirstFault text Unexpected at = HasNoTree text (Stops limit IsProgram) at
-IsFirstFault text TooDeep at = HasNoTree text (Sinks limit IsProgram) at
+-- the text's first fault of tokens, of layout or of the grammar
+abbrev pub IsTextFault : List ℕ → FaultKind → Place → Type 0
+IsTextFault text BadCharacter at = Lexes first_spot (chars text) (Err (lexing.BadCharacter at))
+IsTextFault text OpenString at = Lexes first_spot (chars text) (Err (lexing.OpenString at))
+IsTextFault text BadEscape at = Lexes first_spot (chars text) (Err (lexing.BadEscape at))
+IsTextFault text NumberTooLarge at = Lexes first_spot (chars text) (Err (lexing.NumberTooLarge at))
+IsTextFault text NameTooLong at = Lexes first_spot (chars text) (Err (lexing.NameTooLong at))
+IsTextFault text Tab at = Lexes first_spot (chars text) (Err (lexing.Tab at))
+IsTextFault text TextTooLong at = Lexes first_spot (chars text) (Err (lexing.TextTooLong at))
+IsTextFault text BadColumn at = (tokens : List Token) × HasTokens text tokens × (laid_out text (end_of text) tokens ≡ Err (lexing.BadColumn at))
+IsTextFault text Unexpected at = HasNoTree text (Stops limit IsProgram) at
+IsTextFault text TooDeep at = HasNoTree text (Sinks limit IsProgram) at
+IsTextFault text Twice at = ⊥
+IsTextFault text Unknown at = ⊥
+IsTextFault text WrongKind at = ⊥
+IsTextFault text NoRun at = ⊥
+IsTextFault text RunNotService at = ⊥
+IsTextFault text TypeArguments at = ⊥
 
+-- the text has a tree, which is well declared
+abbrev pub HasNames : List ℕ → Program → Type 0
+HasNames text program = HasTree text program × IsWellDeclared (view_program program)
+
+-- the text has a tree, of whose faults of names this is the first
+abbrev pub HasNameFault : List ℕ → NameFault → Type 0
+HasNameFault text fault = (program : Program) × HasTree text program × ((more : List NameFault) × (name_faults (view_program program) ≡ fault ∷ more))
+
+-- how a fault of names is told
+abbrev pub told_of_names : NameFault → Option SourceFault
+told_of_names (naming.Twice at x) = Some (record { kind = Twice; place = at; detail = Named x })
+told_of_names (naming.Unknown at x) = Some (record { kind = Unknown; place = at; detail = Named x })
+told_of_names (naming.WrongKind at x) = Some (record { kind = WrongKind; place = at; detail = Named x })
+told_of_names (naming.TypeArguments at found wanted) = Some (record { kind = TypeArguments; place = at; detail = Counted found wanted })
+told_of_names (naming.NoRun at) = Some (record { kind = NoRun; place = at; detail = Nothing })
+told_of_names (naming.RunNotService at) = Some (record { kind = RunNotService; place = at; detail = Nothing })
+told_of_names naming.OutOfMemory = None
+
+-- the text's first fault: one of its tokens, its layout or its words, which has no detail, or one of its names
 abbrev pub IsSourceFault : List ℕ → SourceFault → Type 0
-IsSourceFault text f = IsFirstFault text f.kind f.place
+IsSourceFault text f = ((f.detail ≡ Nothing) × IsTextFault text f.kind f.place) ⊎ ((fault : NameFault) × HasNameFault text fault × (told_of_names fault ≡ Some f))
 
 -- the refusal for a fault of tokens or of layout
 abbrev pub refusal_of_lexing : LexFault → Refusal
-refusal_of_lexing (lexing.BadCharacter at) = Source (record { kind = BadCharacter; place = at })
-refusal_of_lexing (lexing.OpenString at) = Source (record { kind = OpenString; place = at })
-refusal_of_lexing (lexing.BadEscape at) = Source (record { kind = BadEscape; place = at })
-refusal_of_lexing (lexing.NumberTooLarge at) = Source (record { kind = NumberTooLarge; place = at })
-refusal_of_lexing (lexing.NameTooLong at) = Source (record { kind = NameTooLong; place = at })
-refusal_of_lexing (lexing.Tab at) = Source (record { kind = Tab; place = at })
-refusal_of_lexing (lexing.BadColumn at) = Source (record { kind = BadColumn; place = at })
-refusal_of_lexing (lexing.TextTooLong at) = Source (record { kind = TextTooLong; place = at })
+refusal_of_lexing (lexing.BadCharacter at) = Source (record { kind = BadCharacter; place = at; detail = Nothing })
+refusal_of_lexing (lexing.OpenString at) = Source (record { kind = OpenString; place = at; detail = Nothing })
+refusal_of_lexing (lexing.BadEscape at) = Source (record { kind = BadEscape; place = at; detail = Nothing })
+refusal_of_lexing (lexing.NumberTooLarge at) = Source (record { kind = NumberTooLarge; place = at; detail = Nothing })
+refusal_of_lexing (lexing.NameTooLong at) = Source (record { kind = NameTooLong; place = at; detail = Nothing })
+refusal_of_lexing (lexing.Tab at) = Source (record { kind = Tab; place = at; detail = Nothing })
+refusal_of_lexing (lexing.BadColumn at) = Source (record { kind = BadColumn; place = at; detail = Nothing })
+refusal_of_lexing (lexing.TextTooLong at) = Source (record { kind = TextTooLong; place = at; detail = Nothing })
 refusal_of_lexing lexing.OutOfMemory = OutOfMemory
 
 -- a text without a tree is refused for its first fault; want of memory alone comes freely
@@ -76,3 +107,22 @@ IsSourceRefusal text TooLong = ⊥
 IsSourceRefusal text (NotUtf8 at) = ⊥
 IsSourceRefusal text NotBuilt = ⊥
 IsSourceRefusal text ReadFault = ⊥
+
+-- a fault is told, or else memory ran out
+abbrev pub refused_for : Option SourceFault → Refusal
+refused_for (Some f) = Source f
+refused_for None = OutOfMemory
+
+-- the refusal for a fault of names
+abbrev pub refusal_of_naming : NameFault → Refusal
+refusal_of_naming fault = refused_for (told_of_names fault)
+
+-- a program whose names aren't well declared is refused for their first fault; want of memory alone comes freely
+abbrev pub IsRefusedForNames : d.Program → Refusal → Type 0
+IsRefusedForNames program (Source f) = (fault : NameFault) × ((more : List NameFault) × (name_faults program ≡ fault ∷ more)) × (told_of_names fault ≡ Some f)
+IsRefusedForNames program OutOfMemory = ⊤
+IsRefusedForNames program BadCommandLine = ⊥
+IsRefusedForNames program TooLong = ⊥
+IsRefusedForNames program (NotUtf8 at) = ⊥
+IsRefusedForNames program NotBuilt = ⊥
+IsRefusedForNames program ReadFault = ⊥

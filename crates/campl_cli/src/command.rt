@@ -6,6 +6,7 @@ ghost use Rattle.campl_cli.specs.Performance.{IsPerformance};
 ghost use Rattle.campl_cli.specs.Refusals.{files, PrintsText, IsRefusedText, IsSource, IsRefusedSource, IsAccepted, IsDue};
 
 use crate::gate::Gate;
+use crate::names::judge_names;
 use crate::performance::{Performance, perform, print};
 use crate::printer::{Printer, printer_of};
 use crate::refusal::{Refusal, SOURCE_LIMIT};
@@ -93,9 +94,12 @@ fn read_printer(alloc: Global, text: &Text) -> Result<Printer, Refusal>
     ensures { MatchResult result (λ printer. PrintsText text.now (prints_of printer)) (IsRefusedText text.now) }
 {
     let program = tree_of(alloc, text)?;
-    match printer_of(alloc, &program) {
-        Ok(Some(printer)) => Ok(printer),
-        Ok(None) => Err(Refusal::NotBuilt),
-        Err(_) => Err(Refusal::OutOfMemory),
+    let Ok(printer) = printer_of(alloc, &program) else {
+        return Err(Refusal::OutOfMemory);
+    };
+    judge_names(alloc, program)?;
+    match printer {
+        Some(printer) => Ok(printer),
+        None => Err(Refusal::NotBuilt),
     }
 }

@@ -2,15 +2,29 @@
 ghost use Rattle.std.specs.Prelude.{◌≡◌};
 ghost use Rattle.campl_cli.specs.Faults.{code_of};
 
-use campl_tree::Place;
+use campl_tree::{Name, Place};
 use thiserror::Error;
 
 /// The first fault of a source, at its place.
-#[derive(Clone, Copy, Debug, PartialEq, Eq, Error)]
-#[error("{code} at {line}:{column}", code = .kind.code(), line = .place.line, column = .place.column)]
+#[derive(Debug, Drop, Error)]
+#[error("{code} at {line}:{column}{detail}", code = .kind.code(), line = .place.line, column = .place.column, detail = .detail)]
 pub struct SourceFault {
     pub kind: FaultKind,
     pub place: Place,
+    pub detail: Detail,
+}
+
+/// What a fault tells beside its place.
+#[derive(Debug, Drop, Error)]
+pub enum Detail {
+    #[error("")]
+    Nothing,
+    /// The name that is at fault.
+    #[error(": name {0}")]
+    Named(Name),
+    /// A number that was found where another is wanted.
+    #[error(": found {found}, wanted {wanted}")]
+    Counted { found: usize, wanted: usize },
 }
 
 /// What is wrong of a source. `docs/LANGUAGE.md` lists the numbers and the places.
@@ -36,6 +50,18 @@ pub enum FaultKind {
     Unexpected,
     /// A token that is nested more than 200 deep.
     TooDeep,
+    /// A name that is declared a second time.
+    Twice,
+    /// A name that isn't known.
+    Unknown,
+    /// A name of another kind than its place wants.
+    WrongKind,
+    /// No process is named `run`.
+    NoRun,
+    /// The heading of `run` has more than services.
+    RunNotService,
+    /// A named type with another number of arguments than its declaration has parameters.
+    TypeArguments,
 }
 
 impl FaultKind {
@@ -54,6 +80,12 @@ impl FaultKind {
             FaultKind::TextTooLong => "E08 TextTooLong",
             FaultKind::Unexpected => "E10 Unexpected",
             FaultKind::TooDeep => "E11 TooDeep",
+            FaultKind::Twice => "E20 Twice",
+            FaultKind::Unknown => "E21 Unknown",
+            FaultKind::WrongKind => "E22 WrongKind",
+            FaultKind::NoRun => "E23 NoRun",
+            FaultKind::RunNotService => "E24 RunNotService",
+            FaultKind::TypeArguments => "E25 TypeArguments",
         }
     }
 }

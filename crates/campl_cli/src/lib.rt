@@ -6,6 +6,7 @@
 mod command;
 mod fault;
 mod gate;
+mod names;
 mod output;
 mod performance;
 mod printer;
@@ -17,7 +18,7 @@ mod telling;
 mod words;
 
 pub use command::campl;
-pub use fault::{FaultKind, SourceFault};
+pub use fault::{Detail, FaultKind, SourceFault};
 pub use gate::{Gate, OpenGate};
 pub use printer::{Printer, printer_of};
 pub use refusal::{Refusal, SOURCE_LIMIT};

@@ -9,7 +9,7 @@ use thiserror::Error;
 pub const SOURCE_LIMIT: u64 = 1_048_576;
 
 /// Why a command ended before its run.
-#[derive(Clone, Copy, Debug, PartialEq, Eq, Error)]
+#[derive(Debug, Drop, Error)]
 pub enum Refusal {
     /// The words are no command.
     #[error("bad command line")]
@@ -20,7 +20,7 @@ pub enum Refusal {
     /// The source isn't UTF-8; its longest front that is has `at` bytes.
     #[error("source isn't UTF-8 at byte {at}")]
     NotUtf8 { at: u64 },
-    /// The source has no tokens, no layout or no tree.
+    /// The source has no tokens, no layout or no tree, or its names aren't well declared.
     #[error("{0}")]
     Source(SourceFault),
     /// The source has a tree, and isn't of the form that runs so far.
@@ -36,8 +36,8 @@ pub enum Refusal {
 
 impl Refusal {
     /// The exit status that goes with it.
-    pub fn status(self) -> u8
-        ensures { result ≡ status_of self }
+    pub fn status(&self) -> u8
+        ensures { result ≡ status_of self.now }
     {
         match self {
             Refusal::BadCommandLine => 2,

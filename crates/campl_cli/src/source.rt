@@ -4,8 +4,9 @@ ghost use Rattle.std.specs.List.{All};
 ghost use Rattle.campl_lex.specs.Layout.{IsWritten, IsWhole};
 ghost use Rattle.campl_words.specs.Words.{IsCut};
 ghost use Rattle.campl_cli.specs.Source.{HasTokens, HasLayout, HasTree, IsSourceRefusal, refusal_of_lexing};
+ghost use Rattle.campl_cli.specs.declared.fault.Detail.TheVariants.{Nothing};
 
-use crate::fault::{FaultKind, SourceFault};
+use crate::fault::{Detail, FaultKind, SourceFault};
 use crate::refusal::Refusal;
 use campl_lex::{LexFault, Token, end_of, layout, lex};
 use campl_parse::{ParseFault, parse};
@@ -15,9 +16,13 @@ use std::alloc::Global;
 
 // A refusal for this fault at this place.
 fn refusal(kind: FaultKind, place: Place) -> Refusal
-    ensures { result ≡ Refusal.Source (record { kind = kind; place = place }) }
+    ensures { result ≡ Refusal.Source (record { kind = kind; place = place; detail = Nothing }) }
 {
-    Refusal::Source(SourceFault { kind, place })
+    Refusal::Source(SourceFault {
+        kind,
+        place,
+        detail: Detail::Nothing,
+    })
 }
 
 // The refusal for a fault of tokens or of layout.

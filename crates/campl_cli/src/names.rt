@@ -1,0 +1,62 @@
+//! Whether the names of a tree are well declared.
+ghost use Rattle.std.specs.Prelude.{◌≡◌, MatchResult};
+ghost use Rattle.campl_tree.specs.View.{view_program};
+ghost use Rattle.campl_types.specs.WellDeclared.{IsWellDeclared};
+ghost use Rattle.campl_cli.specs.Source.{refusal_of_naming, IsRefusedForNames};
+
+use crate::fault::{Detail, FaultKind, SourceFault};
+use crate::refusal::Refusal;
+use campl_tree::{Name, Place, Program};
+use campl_types::{NameFault, declare};
+use std::alloc::Global;
+
+/// Judges the names of a program.
+pub fn judge_names(alloc: Global, program: Program) -> Result<(), Refusal>
+    ensures { MatchResult result (λ _. IsWellDeclared (view_program program)) (IsRefusedForNames (view_program program)) }
+{
+    match declare(alloc, program) {
+        Ok(_) => Ok(()),
+        Err(fault) => Err(refusal_of(fault)),
+    }
+}
+
+// The refusal for a fault of names.
+fn refusal_of(fault: NameFault) -> Refusal
+    ensures { result ≡ refusal_of_naming fault }
+{
+    match fault {
+        NameFault::Twice { place, name } => named(FaultKind::Twice, place, name),
+        NameFault::Unknown { place, name } => named(FaultKind::Unknown, place, name),
+        NameFault::WrongKind { place, name } => named(FaultKind::WrongKind, place, name),
+        NameFault::TypeArguments {
+            place,
+            found,
+            wanted,
+        } => refusal(
+            FaultKind::TypeArguments,
+            place,
+            Detail::Counted { found, wanted },
+        ),
+        NameFault::NoRun { place } => refusal(FaultKind::NoRun, place, Detail::Nothing),
+        NameFault::RunNotService { place } => {
+            refusal(FaultKind::RunNotService, place, Detail::Nothing)
+        }
+        NameFault::OutOfMemory => Refusal::OutOfMemory,
+    }
+}
+
+fn refusal(kind: FaultKind, place: Place, detail: Detail) -> Refusal
+    ensures { result ≡ Refusal.Source (record { kind = kind; place = place; detail = detail }) }
+{
+    Refusal::Source(SourceFault {
+        kind,
+        place,
+        detail,
+    })
+}
+
+fn named(kind: FaultKind, place: Place, name: Name) -> Refusal
+    ensures { result ≡ Refusal.Source (record { kind = kind; place = place; detail = Detail.Named name }) }
+{
+    refusal(kind, place, Detail::Named(name))
+}
