@@ -25,3 +25,4 @@ pub mod Sequential
 pub mod Held
 pub mod Headers
 pub mod Linear
+pub mod Typed
