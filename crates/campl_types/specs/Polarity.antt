@@ -37,7 +37,7 @@ at_whole own whole f TopBot = TopBot
 at_whole own whole f (Neg x) = Neg (at_whole own whole f x)
 at_whole own whole f (Named at x ts) = if same_name x own then whole else Named at x (all_filled f ts)
 
-abbrev line : (local name : Ident) → List Ident → List SeqType → ChanType → ChanType
+abbrev pub line : (local name : Ident) → List Ident → List SeqType → ChanType → ChanType
 line local name parameters arguments =
     at_whole local.name (Named nowhere name.name (types_of arguments)) (filling (names_of parameters) arguments)
 

@@ -1,11 +1,13 @@
 //! Whether the names in patterns and expressions are known and of their kind.
-ghost use Rattle.std.specs.Prelude.{◌≡◌, ◌++◌, OnOk, map};
+ghost use Rattle.std.specs.Prelude.{◌≡◌, [], ◌∷◌, ◌++◌, OnOk, map, if◌then◌else◌};
 ghost use Rattle.campl_tree.specs.View.{view_pattern, patterns, view_expr, exprs, view_expr_row, expr_rows, view_decl};
 ghost use Rattle.campl_types.specs.Judges.{Judges};
 ghost use Rattle.campl_types.specs.Known.{of_data, a_function, in_pattern, in_patterns, in_expr, in_exprs, in_expr_rows};
+ghost use Rattle.campl_types.specs.Names.{is_among};
 ghost use Rattle.campl_types.specs.Patterns.{bound_in, bound_in_all};
 ghost use Rattle.campl_types.specs.Scope.{with_names};
 ghost use Rattle.campl_types.specs.World.{constructor_named, lower_named};
+ghost use Rattle.campl_types.specs.declared.fault.NameFault.TheVariants.{Unknown};
 
 use crate::fault::{NameFault, unknown, wrong_kind};
 use crate::name_set::NameSet;
@@ -139,6 +141,17 @@ fn judge_function_name(
     }
 }
 
+/// Judges the name of a variable.
+#[tactic(auto, using(crate::proofs::Judged::judged))]
+fn judge_variable(alloc: Global, scope: &NameSet, at: Place, name: &Name) -> Result<(), NameFault>
+    ensures { Judges (if is_among name.now scope.now then [] else Unknown at name.now ∷ []) result }
+{
+    if scope.has(name) {
+        return Ok(());
+    }
+    unknown(alloc, at, name)
+}
+
 /// Judges an expression under the variables in scope, which stay as they are.
 #[cycle(expr)]
 #[tactic(auto, using(crate::proofs::Judging::exprs))]
@@ -161,11 +174,7 @@ pub(crate) fn judge_expr(
             judge_expr(alloc, world, scope, a.get())?;
             judge_expr_rows(alloc, world, scope, rows.as_slice())
         }
-        Expr::Or(_, a, b) => {
-            judge_expr(alloc, world, scope, a.get())?;
-            judge_expr(alloc, world, scope, b.get())
-        }
-        Expr::And(_, a, b) => {
+        Expr::Or(_, a, b) | Expr::And(_, a, b) => {
             judge_expr(alloc, world, scope, a.get())?;
             judge_expr(alloc, world, scope, b.get())
         }
@@ -173,45 +182,32 @@ pub(crate) fn judge_expr(
             judge_expr(alloc, world, scope, a.get())?;
             judge_expr(alloc, world, scope, b.get())
         }
-        Expr::Cons(_, a, b) => {
-            judge_expr(alloc, world, scope, a.get())?;
-            judge_expr(alloc, world, scope, b.get())
-        }
-        Expr::Append(_, a, b) => {
-            judge_expr(alloc, world, scope, a.get())?;
-            judge_expr(alloc, world, scope, b.get())
-        }
         Expr::Calculate(_, a, _, b) => {
             judge_expr(alloc, world, scope, a.get())?;
             judge_expr(alloc, world, scope, b.get())
         }
-        Expr::Negate(_, a) => judge_expr(alloc, world, scope, a.get()),
-        Expr::Number(_, _) => Ok(()),
-        Expr::Character(_, _) => Ok(()),
-        Expr::Text(_, _) => Ok(()),
-        Expr::True(_) => Ok(()),
-        Expr::False(_) => Ok(()),
-        Expr::Variable(at, x) => {
-            if scope.has(x) {
-                return Ok(());
-            }
-            unknown(alloc, *at, x)
+        Expr::Cons(_, a, b) | Expr::Append(_, a, b) | Expr::Pair(_, a, b) => {
+            judge_expr(alloc, world, scope, a.get())?;
+            judge_expr(alloc, world, scope, b.get())
         }
+        Expr::Negate(_, a) | Expr::CodeOf(_, a) | Expr::CharOf(_, a) => {
+            judge_expr(alloc, world, scope, a.get())
+        }
+        Expr::Number(_, _)
+        | Expr::Character(_, _)
+        | Expr::Text(_, _)
+        | Expr::True(_)
+        | Expr::False(_) => Ok(()),
+        Expr::Variable(at, x) => judge_variable(alloc, scope, *at, x),
         Expr::Call(at, x, args) => {
             judge_function_name(alloc, world, *at, x)?;
             judge_exprs(alloc, world, scope, args.as_slice())
         }
-        Expr::CodeOf(_, a) => judge_expr(alloc, world, scope, a.get()),
-        Expr::CharOf(_, a) => judge_expr(alloc, world, scope, a.get()),
         Expr::Constructor(at, x, args) => {
             judge_data_constructor(alloc, world, *at, x)?;
             judge_exprs(alloc, world, scope, args.as_slice())
         }
         Expr::List(_, args) => judge_exprs(alloc, world, scope, args.as_slice()),
-        Expr::Pair(_, a, b) => {
-            judge_expr(alloc, world, scope, a.get())?;
-            judge_expr(alloc, world, scope, b.get())
-        }
     }
 }
 

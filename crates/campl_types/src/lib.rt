@@ -3,9 +3,10 @@
 //! The definitions of the language up to its typing stand in `specs/`, over the plain trees of
 //! `campl_tree`, in the order of the language's rules: names and types, the prelude, what is declared,
 //! polarity, patterns, expressions, processes. [`declare`] judges the names of a program and gives its
-//! [`World`], which finds what is declared by a name; [`NameFault`] is its refusal. [`services`] reads the
-//! channels of `run` from a world, and [`allowed`] an entry of the polarity table, an [`Act`]. A channel of
-//! type `Put(Int | TopBot)` gives
+//! [`World`], which finds what is declared by a name; [`NameFault`] is its refusal. A world also reads off the
+//! channels of `run` (`services`), the polarity table (`allowed`, which answers an [`Act`]), and the type that
+//! remains after a constructor (`after`). [`partners`] says which two ends fit together. A channel of type
+//! `Put(Int | TopBot)` gives
 //!
 //! ```text
 //! on the output side: Act::Put, on the input side: Act::Get
@@ -13,6 +14,7 @@
 #![tactic(auto)]
 
 mod act;
+mod after;
 mod ends;
 mod fault;
 mod judge;
@@ -35,6 +37,5 @@ pub use act::Act;
 pub use ends::partners;
 pub use fault::NameFault;
 pub use judge::declare;
-pub use polarity::allowed;
-pub use run::{RunServices, services};
+pub use run::RunServices;
 pub use world::{ConstructorRef, LowerRef, TypeRef, World};

@@ -9,27 +9,29 @@ use crate::act::Act;
 use crate::world::{TypeRef, World};
 use campl_tree::{ChanType, Name, Side};
 
-/// What a process may do with a channel of this type that it holds on this side. A type that isn't known
-/// allows an identity alone. Takes no memory.
-#[tactic(auto, using(crate::proofs::Trees::chan_views, crate::proofs::Acts::acts))]
-pub fn allowed(world: &World, t: &ChanType, side: Side) -> Act
-    ensures { result ≡ allowed (map view_decl world.now) (view_chan t.now) side }
-{
-    match (t, side) {
-        (ChanType::Put(_, _), Side::Output) => Act::Put,
-        (ChanType::Put(_, _), Side::Input) => Act::Get,
-        (ChanType::Get(_, _), Side::Output) => Act::Get,
-        (ChanType::Get(_, _), Side::Input) => Act::Put,
-        (ChanType::Tensor(_, _), Side::Output) => Act::Fork,
-        (ChanType::Tensor(_, _), Side::Input) => Act::Split,
-        (ChanType::Par(_, _), Side::Output) => Act::Split,
-        (ChanType::Par(_, _), Side::Input) => Act::Fork,
-        (ChanType::TopBot, Side::Output) => Act::End,
-        (ChanType::TopBot, Side::Input) => Act::End,
-        (ChanType::Neg(_), Side::Output) => Act::Link,
-        (ChanType::Neg(_), Side::Input) => Act::Link,
-        (ChanType::Named(_, x, _), Side::Output) => named_on_output(world, x),
-        (ChanType::Named(_, x, _), Side::Input) => named_on_input(world, x),
+impl World {
+    /// What a process may do with a channel of this type that it holds on this side. A type that isn't known
+    /// allows an identity alone. Takes no memory.
+    #[tactic(auto, using(crate::proofs::Trees::chan_views, crate::proofs::Acts::acts))]
+    pub fn allowed(&self, t: &ChanType, side: Side) -> Act
+        ensures { result ≡ allowed (map view_decl self.now) (view_chan t.now) side }
+    {
+        match (t, side) {
+            (ChanType::Put(_, _), Side::Output) => Act::Put,
+            (ChanType::Put(_, _), Side::Input) => Act::Get,
+            (ChanType::Get(_, _), Side::Output) => Act::Get,
+            (ChanType::Get(_, _), Side::Input) => Act::Put,
+            (ChanType::Tensor(_, _), Side::Output) => Act::Fork,
+            (ChanType::Tensor(_, _), Side::Input) => Act::Split,
+            (ChanType::Par(_, _), Side::Output) => Act::Split,
+            (ChanType::Par(_, _), Side::Input) => Act::Fork,
+            (ChanType::TopBot, Side::Output) => Act::End,
+            (ChanType::TopBot, Side::Input) => Act::End,
+            (ChanType::Neg(_), Side::Output) => Act::Link,
+            (ChanType::Neg(_), Side::Input) => Act::Link,
+            (ChanType::Named(_, x, _), Side::Output) => named_on_output(self, x),
+            (ChanType::Named(_, x, _), Side::Input) => named_on_input(self, x),
+        }
     }
 }
 

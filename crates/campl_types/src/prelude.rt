@@ -14,7 +14,7 @@ use sqlite_items::{Boxed, Items};
 use std::alloc::{AllocError, Global};
 
 /// The place of what stands in no source.
-const NOWHERE: Place = Place { line: 0, column: 0 };
+pub(crate) const NOWHERE: Place = Place { line: 0, column: 0 };
 
 // The names of the prelude.
 const OWN: [char; 1] = ['S'];

@@ -126,18 +126,20 @@ pub struct RunServices<'a> {
     pub outputs: &'a [Ident],
 }
 
-/// The services of a program; none where it has no `run`. Takes no memory.
-pub fn services(world: &World) -> RunServices<'_>
-    ensures { map (service Input) result.inputs.now ++ map (service Output) result.outputs.now ≡ services_of (map view_decl world.now) }
-{
-    match world.run() {
-        Some(p) => RunServices {
-            inputs: p.row.inputs.as_slice(),
-            outputs: p.row.outputs.as_slice(),
-        },
-        None => RunServices {
-            inputs: &[],
-            outputs: &[],
-        },
+impl World {
+    /// The services of a program; none where it has no `run`. Takes no memory.
+    pub fn services(&self) -> RunServices<'_>
+        ensures { map (service Input) result.inputs.now ++ map (service Output) result.outputs.now ≡ services_of (map view_decl self.now) }
+    {
+        match self.run() {
+            Some(p) => RunServices {
+                inputs: p.row.inputs.as_slice(),
+                outputs: p.row.outputs.as_slice(),
+            },
+            None => RunServices {
+                inputs: &[],
+                outputs: &[],
+            },
+        }
     }
 }
