@@ -5,14 +5,14 @@ ghost use Rattle.campl_grammar.specs.Word.{terminals};
 ghost use Rattle.campl_grammar.specs.Tables.{starts};
 ghost use Rattle.campl_grammar.specs.Rules.{read, piece};
 ghost use Rattle.campl_grammar.specs.Names as name;
-ghost use Rattle.campl_parse.specs.Pieces.{some_decls as some_decls_piece};
-ghost use Rattle.campl_parse.specs.Reads.{Reads};
+ghost use Rattle.campl_parse.specs.Declarations.{some_decls as some_decls_piece};
+ghost use Rattle.campl_parse_types.specs.Reads.{Reads};
 
-use crate::cursor::Cursor;
 use crate::definition::{fun_decl, proc_decl};
-use crate::error::ParseError;
 use crate::type_decl::{coprotocol_decl, data_decl, protocol_decl};
 use campl_grammar::Kind;
+use campl_parse_types::cursor::Cursor;
+use campl_parse_types::error::ParseError;
 use campl_tree::{Decl, Program};
 use sqlite_items::Items;
 use std::alloc::Global;

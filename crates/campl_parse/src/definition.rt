@@ -2,16 +2,16 @@
 ghost use Rattle.std.specs.Prelude.{◌≡◌};
 ghost use Rattle.campl_grammar.specs.Rules.{read};
 ghost use Rattle.campl_grammar.specs.Names as name;
-ghost use Rattle.campl_parse.specs.Reads.{Reads};
+ghost use Rattle.campl_parse_types.specs.Reads.{Reads};
 
-use crate::body::body;
-use crate::cursor::Cursor;
-use crate::error::ParseError;
-use crate::expr::expr;
-use crate::names::{names, some_vars};
-use crate::pattern::some_patterns;
-use crate::types::{some_ctypes, some_stypes, stype};
 use campl_grammar::Kind;
+use campl_parse_bodies::body::body;
+use campl_parse_exprs::expr::expr;
+use campl_parse_types::cursor::Cursor;
+use campl_parse_types::error::ParseError;
+use campl_parse_types::names::{names, some_vars};
+use campl_parse_types::pattern::some_patterns;
+use campl_parse_types::types::{some_ctypes, some_stypes, stype};
 use campl_tree::{FunctionDecl, FunctionRow, ProcessDecl, ProcessRow};
 use sqlite_items::Items;
 use std::alloc::Global;

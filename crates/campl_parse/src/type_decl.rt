@@ -2,13 +2,13 @@
 ghost use Rattle.std.specs.Prelude.{◌≡◌};
 ghost use Rattle.campl_grammar.specs.Rules.{read};
 ghost use Rattle.campl_grammar.specs.Names as name;
-ghost use Rattle.campl_parse.specs.Reads.{Reads};
+ghost use Rattle.campl_parse_types.specs.Reads.{Reads};
 
-use crate::cursor::Cursor;
-use crate::error::ParseError;
-use crate::names::parameters;
-use crate::types::{ctype, type_arguments};
 use campl_grammar::Kind;
+use campl_parse_types::cursor::Cursor;
+use campl_parse_types::error::ParseError;
+use campl_parse_types::names::parameters;
+use campl_parse_types::types::{ctype, type_arguments};
 use campl_tree::{
     CoprotocolConstructor, CoprotocolDecl, DataConstructor, DataDecl, ProtocolConstructor,
     ProtocolDecl,

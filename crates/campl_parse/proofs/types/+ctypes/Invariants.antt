@@ -1,5 +1,0 @@
-use Rattle.std.proofs.Common.{◌-◌}
-use Rattle.campl_parse.proofs.types.+ctypes.Given as goal
-
-abbrev pub decreases-ctypes : goal.decreases-ctypes
-decreases-ctypes l = 201 - l.depth
