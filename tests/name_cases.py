@@ -1,9 +1,9 @@
 """The cases for names, as a name, how their answer begins, and their source.
 
-Each form of name_forms.py is filled with names that are meant there; then, for each of its places, with unknown names from that
-place on, and with one name that is known and not meant there. To them come names that are declared twice, numbers of arguments,
-two faults in one source, the rows of name_rows.py, and worked sources. `all_cases` judges by the reference that each case is
-what it is meant to be.
+Each form of name_forms.py is filled with names that are meant there; then, for each of its places, with unknown names from
+that place on, and with one name that is known and not meant there. To them come names that are declared twice, numbers of
+arguments, two faults in one source, the rows of name_rows.py, and worked sources. `all_cases` asserts that the reference
+answers each as it is meant.
 """
 
 import glob
@@ -26,7 +26,10 @@ KINDS = {
     "protocol": "protocol {type} => S where\n {line} :: TopBot => S\n",
     "coprotocol": "coprotocol S => {type} where\n {line} :: S => TopBot\n",
 }
-CALLABLES = {"function": "fun {name} :: Int -> Int where\n x -> x\n", "process": "proc {name} :: Int | => where\n x | => -> halt\n"}
+CALLABLES = {
+    "function": "fun {name} :: Int -> Int where\n x -> x\n",
+    "process": "proc {name} :: Int | => where\n x | => -> halt\n",
+}
 PRELUDE_TYPES = ["Console", "StringTerminal"]
 PRELUDE_LINES = [kind + line for kind in PRELUDE_TYPES for line in ("Put", "Get", "Close")]
 
@@ -125,17 +128,26 @@ def twice_within():
             yield "the parameters %s of a %s" % (parameters, kind), "E20", form.format(parameters, "Three") + RUN
         yield "a parameter before a line of a " + kind, "E20", form.format("a, a", "One") + RUN
         yield "a name before a parameter of a " + kind, "E20", form.format("a, a", "One").replace("T(", "Console(") + RUN
-        other = form.format("a", "Three") + form.format("a", "Six").replace("T(", "U(").replace("One", "Four").replace("Two", "Five")
-        yield "the same parameter of two of " + kind, OK, other + RUN
+        other = form.replace("T(", "U(").replace("One", "Four").replace("Two", "Five").format("a", "Six")
+        yield "the same parameter of two of " + kind, OK, form.format("a", "Three") + other + RUN
 
 
 TWICE = [
     ("a type three times", "E20", "data T where\n One\ndata T where\n Two\ndata T where\n Three\n"),
-    ("one name in all spaces", OK, "data T(t) where\n T(t)\nfun t :: t -> T(t) where\n t -> T(t)\nproc p :: Int | => where\n t | t => t -> p(t | t => t)\n"),
+    (
+        "one name in all spaces",
+        OK,
+        "data T(t) where\n T(t)\nfun t :: t -> T(t) where\n t -> T(t)\nproc p :: Int | => where\n"
+        " t | t => t -> p(t | t => t)\n",
+    ),
     ("a parameter of a function's name", OK, "data T(f) where\n One(f)\nfun f :: Int -> Int where\n f -> f(f)\n"),
     ("a parameter of a type's first name", OK, "protocol T(t) => S where\n T :: Put(t | S) => S\n"),
     ("a declared name at a line before a type", "E20", "data T where\n One\n One\ndata T where\n Two\n"),
-    ("a constructor twice before a function", "E20", "fun f :: Int -> Int where\n x -> x\ndata T where\n One\n One\nproc f :: Int | => where\n x | => -> halt\n"),
+    (
+        "a constructor twice before a function",
+        "E20",
+        "fun f :: Int -> Int where\n x -> x\ndata T where\n One\n One\nproc f :: Int | => where\n x | => -> halt\n",
+    ),
 ]
 
 
@@ -151,7 +163,11 @@ def twice_cases():
 
 
 PARAMETERS = {0: "", 1: "(a)", 2: "(a, b)"}
-USES = {"data type": "fun t :: {} -> Int where\n x -> 1\n", "protocol": "proc t :: | {} => where\n | c => -> halt\n", "coprotocol": "proc t :: | => {} where\n | => c -> halt\n"}
+USES = {
+    "data type": "fun t :: {} -> Int where\n x -> 1\n",
+    "protocol": "proc t :: | {} => where\n | c => -> halt\n",
+    "coprotocol": "proc t :: | => {} where\n | => c -> halt\n",
+}
 NESTED = [
     ("a number before an unknown argument", "E25", "data", "Maybe(Nobody, Int)"),
     ("an argument of a wrong number", "E25", "data", "Maybe(Maybe)"),

@@ -109,20 +109,27 @@ TYPES = {
         " Three :: Neg(@channel) => U\n"
     ),
     "lines of a coprotocol": (
-        "coprotocol U => T(a) where\n One :: U => Get(@data | Put(@variable | @channel))\n Two :: U => @channel (+) @channel\n"
-        " Three :: U => Neg(@channel)\n"
+        "coprotocol U => T(a) where\n One :: U => Get(@data | Put(@variable | @channel))\n"
+        " Two :: U => @channel (+) @channel\n Three :: U => Neg(@channel)\n"
     ),
     "arguments in lines": (
-        "protocol T(a) => U where\n One :: Stream(@data) => U\n Two :: Stream([@variable]) => U\n Three :: Put(Maybe(@data) | U) => U\n"
+        "protocol T(a) => U where\n One :: Stream(@data) => U\n Two :: Stream([@variable]) => U\n"
+        " Three :: Put(Maybe(@data) | U) => U\n"
     ),
     "a function's heading": "fun t :: @data, [@data], (@data, @data) -> @data where\n x, y, z -> t(x, y, z)\n",
     "compound results": "fun t :: -> [(@data, Maybe([@data]))] where\n -> []\n",
-    "a process's heading": "proc t :: @data, [@data] | @channel, Put(@data | @channel) => Get(@data | @channel) where\n _, _ | a, b => c -> halt\n",
+    "a process's heading": (
+        "proc t :: @data, [@data] | @channel, Put(@data | @channel) => Get(@data | @channel) where\n"
+        " _, _ | a, b => c -> halt\n"
+    ),
     "pairs of channel types": (
-        "proc t :: | @channel (*) (@channel (+) @channel) => (Put(@data | @channel) (*) @channel) (+) @channel where\n | a => b -> halt\n"
+        "proc t :: | @channel (*) (@channel (+) @channel) => (Put(@data | @channel) (*) @channel) (+) @channel where\n"
+        " | a => b -> halt\n"
     ),
     "channel types in brackets": "proc t :: | (@channel) => Neg((@channel)), ((@channel)) where\n | a => b, c -> halt\n",
-    "arguments of channel types": "proc t :: | Stream(@data) => Stream([@data]), Put([@data] | Stream((@data, Int))) where\n | a => b, c -> halt\n",
+    "arguments of channel types": (
+        "proc t :: | Stream(@data) => Stream([@data]), Put([@data] | Stream((@data, Int))) where\n | a => b, c -> halt\n"
+    ),
     "links": (
         "proc t :: | => where\n | => -> plug a :: @channel, b :: Put(@data | Neg(@channel)), c :: Stream(@data) of\n"
         "  => a, b, c -> halt\n  a, b, c => -> halt\n"
@@ -161,19 +168,27 @@ COMMANDS = {
     "put": PROC + "do\n  put @value on c\n  put @value on d\n  halt\n",
     "hput": PROC + "do\n  hput @sent on c\n  put @value on c\n  hput @sent on d\n  halt\n",
     "hcase": PROC + "hcase c of\n  @sent -> do\n   put @value on d\n   halt\n  @sent -> @process(@value | c => )\n",
-    "fork": PROC + "fork c as\n  p -> do\n   put @value on p\n   hput @sent on p\n   halt p\n  q -> @process(@value | q => )\n",
+    "fork": (
+        PROC + "fork c as\n  p -> do\n   put @value on p\n   hput @sent on p\n   halt p\n  q -> @process(@value | q => )\n"
+    ),
     "plug": (
         PROC + "plug p :: @channel, q :: Get(@data | @channel) of\n  => p -> @process(@value | p => )\n"
         "  p => q -> do\n   put @value on q\n   halt\n  q, c => d -> hcase d of\n   @sent -> halt\n"
     ),
     "race": PROC + "race\n  c -> do\n   get x on c\n   @process(@value | c => )\n  d -> do\n   hput @sent on d\n   halt d\n",
-    "case of a process": PROC + "case @value of\n  @pattern -> @process(@value | c => )\n  x : @pattern -> do\n   put @value on c\n   halt\n",
+    "case of a process": (
+        PROC + "case @value of\n  @pattern -> @process(@value | c => )\n"
+        "  x : @pattern -> do\n   put @value on c\n   halt\n"
+    ),
     "a call of a process": PROC + "@process(@value, @value | c, c => d)\n",
     "a call of a process without values": PROC + "@process( | c => d)\n",
-    "behind actions": PROC + "do\n  get x on c\n  put @value on c\n  split c into c, e\n  hput @sent on c\n  close c\n  @process(@value | c => )\n",
+    "behind actions": (
+        PROC + "do\n  get x on c\n  put @value on c\n  split c into c, e\n  hput @sent on c\n  close c\n"
+        "  @process(@value | c => )\n"
+    ),
     "commands in commands": (
-        PROC + "hcase c of\n  Tick -> fork d as\n   p -> race\n    p -> case @value of\n     @pattern -> plug e :: @channel of\n"
-        "      => e -> @process(@value | => )\n      e => -> halt\n   q -> halt\n"
+        PROC + "hcase c of\n  Tick -> fork d as\n   p -> race\n    p -> case @value of\n"
+        "     @pattern -> plug e :: @channel of\n      => e -> @process(@value | => )\n      e => -> halt\n   q -> halt\n"
     ),
 }
 

@@ -11,7 +11,11 @@ PROC = "proc t :: Int | Clock => Clock where\n x | c => d -> "
 # Variables, and where they are known. Behind each stands WORLD.
 SCOPES = [
     ("a variable of a row", OK, ROW + "x, y -> x + y\n"),
-    ("variables in all forms of patterns", OK, ROW + "[a, b], (c, d) -> a + b + c + d\n e : f : g, Both(h, Just(i)) -> e + f + g + h + i\n"),
+    (
+        "variables in all forms of patterns",
+        OK,
+        ROW + "[a, b], (c, d) -> a + b + c + d\n e : f : g, Both(h, Just(i)) -> e + f + g + h + i\n",
+    ),
     ("a variable of another row", "E21", ROW + "x, y -> x\n z, 0 -> x + z\n"),
     ("a variable of a later row", "E21", ROW + "x, y -> z\n z, _ -> z\n"),
     ("a variable of another function", "E21", ROW + "x, y -> n\n"),
@@ -35,7 +39,11 @@ SCOPES = [
     ("a hidden variable behind its hider", OK, ROW + "x, y -> (case y of\n  x -> x) + x\n"),
     ("a hider in another row", OK, ROW + "x, y -> case y of\n  x : _ -> x\n  _ -> x\n"),
     ("a case in a pattern's row", OK, ROW + "x, y -> case x of\n  a : b -> case b of\n   c : _ -> a + c\n   _ -> b\n"),
-    ("a variable of an inner case in the outer", "E21", ROW + "x, y -> case x of\n  a -> case a of\n   c : _ -> a + c\n  _ -> c\n"),
+    (
+        "a variable of an inner case in the outer",
+        "E21",
+        ROW + "x, y -> case x of\n  a -> case a of\n   c : _ -> a + c\n  _ -> c\n",
+    ),
     ("a variable of a process", OK, PROC + "t(x | c => d)\n"),
     ("a channel as a variable", "E21", PROC + "t(c | c => d)\n"),
     ("an output as a variable", "E21", PROC + "do\n  put d on c\n  halt\n"),
@@ -51,16 +59,36 @@ SCOPES = [
     ("a channel of get", "E21", PROC + "do\n  get y on c\n  put c on d\n  halt\n"),
     ("a get hides", OK, PROC + "do\n  put x on d\n  get x on c\n  put x on d\n  halt\n"),
     ("a get twice", OK, PROC + "do\n  get y on c\n  get y on c\n  t(y | c => d)\n"),
-    ("a get is known in rows", OK, PROC + "do\n  get y on c\n  hcase c of\n   Tick -> t(y | c => d)\n   Item -> t(y | c => d)\n"),
-    ("a get of another row of hcase", "E21", PROC + "hcase c of\n  Tick -> do\n   get y on c\n   halt\n  Item -> t(y | c => d)\n"),
-    ("a get of another branch of fork", "E21", PROC + "fork c as\n  p -> do\n   get y on p\n   halt p\n  q -> t(y | q => d)\n"),
-    ("a get of another part", "E21", PROC + "plug p :: Clock of\n  => p -> do\n   get y on c\n   halt p\n  p => -> t(y | p => d)\n"),
+    (
+        "a get is known in rows",
+        OK,
+        PROC + "do\n  get y on c\n  hcase c of\n   Tick -> t(y | c => d)\n   Item -> t(y | c => d)\n",
+    ),
+    (
+        "a get of another row of hcase",
+        "E21",
+        PROC + "hcase c of\n  Tick -> do\n   get y on c\n   halt\n  Item -> t(y | c => d)\n",
+    ),
+    (
+        "a get of another branch of fork",
+        "E21",
+        PROC + "fork c as\n  p -> do\n   get y on p\n   halt p\n  q -> t(y | q => d)\n",
+    ),
+    (
+        "a get of another part",
+        "E21",
+        PROC + "plug p :: Clock of\n  => p -> do\n   get y on c\n   halt p\n  p => -> t(y | p => d)\n",
+    ),
     ("a get of another branch of race", "E21", PROC + "race\n  c -> do\n   get y on c\n   halt\n  d -> t(y | c => d)\n"),
     ("a get of another row of a case", "E21", PROC + "case x of\n  0 -> do\n   get y on c\n   halt\n  _ -> t(y | c => d)\n"),
     ("a link as a variable", "E21", PROC + "plug p :: Clock of\n  => p -> t(p | c => d)\n  p => -> halt p\n"),
     ("a channel of split as a variable", "E21", PROC + "do\n  split c into p, q\n  t(p | c => d)\n"),
     ("a channel of fork as a variable", "E21", PROC + "fork c as\n  p -> t(p | c => d)\n  q -> halt\n"),
-    ("a variable of a process's case", OK, PROC + "case x of\n  y : z -> t(y + z | c => d)\n  Just(y) -> t(x + y | c => d)\n"),
+    (
+        "a variable of a process's case",
+        OK,
+        PROC + "case x of\n  y : z -> t(y + z | c => d)\n  Just(y) -> t(x + y | c => d)\n",
+    ),
     ("a variable of a process's case in its value", "E21", PROC + "case y of\n  y -> halt\n"),
     ("a variable of another row of a process's case", "E21", PROC + "case x of\n  y : _ -> halt\n  _ -> t(y | c => d)\n"),
     ("a called variable of a process", "E21", PROC + "do\n  put x(1) on c\n  halt\n"),
@@ -69,8 +97,18 @@ SCOPES = [
 
 # The name of a protocol's heading. Behind each stands WORLD.
 LOCALS = [
-    ("S in all places of a line", OK, "protocol T(a) => U where\n One :: Put(a | U) => U\n Two :: Get(Int | Neg(U)) => U\n Three :: U (*) (U (+) U) => U\n Four :: U => U\n"),
-    ("S in all places of a coprotocol's line", OK, "coprotocol U => T(a) where\n One :: U => Put(a | U)\n Two :: U => Get(Int | Neg(U))\n Three :: U => U (*) (U (+) U)\n"),
+    (
+        "S in all places of a line",
+        OK,
+        "protocol T(a) => U where\n One :: Put(a | U) => U\n Two :: Get(Int | Neg(U)) => U\n"
+        " Three :: U (*) (U (+) U) => U\n Four :: U => U\n",
+    ),
+    (
+        "S in all places of a coprotocol's line",
+        OK,
+        "coprotocol U => T(a) where\n One :: U => Put(a | U)\n Two :: U => Get(Int | Neg(U))\n"
+        " Three :: U => U (*) (U (+) U)\n",
+    ),
     ("S in a put", "E22", "protocol T => U where\n One :: Put(U | U) => U\n"),
     ("S in a get of a coprotocol", "E22", "coprotocol U => T where\n One :: U => Get([U] | U)\n"),
     ("S as an argument", "E22", "protocol T => U where\n One :: Stream(U) => U\n"),
@@ -81,19 +119,43 @@ LOCALS = [
     ("S with two arguments", "E25", "coprotocol U => T where\n One :: U => Put(Int | U(Int, Nobody))\n"),
     ("S hides a data type", OK, "protocol T => Colour where\n One :: Put(Int | Colour) => Colour\n"),
     ("S hides a data type in a put", "E22", "protocol T => Colour where\n One :: Put(Colour | Colour) => Colour\n"),
-    ("S hides a data type in a put of a coprotocol", "E22", "coprotocol Colour => T where\n One :: Colour => Put([Colour] | Colour)\n"),
+    (
+        "S hides a data type in a put of a coprotocol",
+        "E22",
+        "coprotocol Colour => T where\n One :: Colour => Put([Colour] | Colour)\n",
+    ),
     ("S hides a data type with a parameter", "E22", "protocol T => Maybe where\n One :: Put(Maybe(Int) | Maybe) => Maybe\n"),
     ("S hides a protocol", OK, "coprotocol Clock => T where\n One :: Clock => Clock\n"),
     ("S hides a protocol with a parameter", OK, "protocol T => Stream where\n One :: Stream => Stream\n"),
-    ("S hides a protocol that is used with its argument", "E25", "protocol T => Stream where\n One :: Stream(Int) => Stream\n"),
+    (
+        "S hides a protocol that is used with its argument",
+        "E25",
+        "protocol T => Stream where\n One :: Stream(Int) => Stream\n",
+    ),
     ("S hides the console", OK, "protocol T => Console where\n One :: Neg(Console) => Console\n"),
     ("S is the protocol's name", OK, "protocol T => T where\n One :: T => T\n"),
     ("S is the protocol's name and has its argument", "E25", "protocol T(a) => T where\n One :: T(a) => T\n"),
     ("S is the coprotocol's name and has no argument", OK, "coprotocol T => T(a) where\n One :: T => Put(a | T)\n"),
-    ("S hides nothing in other declarations", OK, "protocol T => Colour where\n One :: Colour => Colour\nfun t :: Colour -> Colour where\n x -> Red\n"),
-    ("S isn't known in other declarations", "E21", "protocol T => U where\n One :: U => U\nproc t :: | U => where\n | c => -> halt c\n"),
-    ("S isn't known in other lines", "E21", "protocol T => U where\n One :: U => U\ncoprotocol V => W where\n Two :: V => U\n"),
-    ("the protocol's own name in its lines", OK, "protocol T(a) => U where\n One :: T(a) => U\n Two :: Put(Int | T(Int)) => U\n"),
+    (
+        "S hides nothing in other declarations",
+        OK,
+        "protocol T => Colour where\n One :: Colour => Colour\nfun t :: Colour -> Colour where\n x -> Red\n",
+    ),
+    (
+        "S isn't known in other declarations",
+        "E21",
+        "protocol T => U where\n One :: U => U\nproc t :: | U => where\n | c => -> halt c\n",
+    ),
+    (
+        "S isn't known in other lines",
+        "E21",
+        "protocol T => U where\n One :: U => U\ncoprotocol V => W where\n Two :: V => U\n",
+    ),
+    (
+        "the protocol's own name in its lines",
+        OK,
+        "protocol T(a) => U where\n One :: T(a) => U\n Two :: Put(Int | T(Int)) => U\n",
+    ),
     ("the coprotocol's own name in its lines", OK, "coprotocol U => T where\n One :: U => Get(Int | T)\n"),
     ("the protocol's own name without its argument", "E25", "protocol T(a) => U where\n One :: T => U\n"),
     ("the protocol's own name in a put", "E22", "protocol T => U where\n One :: Put(T | U) => U\n"),
@@ -101,7 +163,11 @@ LOCALS = [
     ("a line ends with a data type", "E22", "protocol T => U where\n One :: U => Colour\n"),
     ("a line ends with an unknown name", "E22", "protocol T => U where\n One :: U => Nobody\n"),
     ("a line ends with a constructor", "E22", "protocol T => U where\n One :: U => One\n"),
-    ("a line ends with the S of another", "E22", "protocol T => U where\n One :: U => V\nprotocol W => V where\n Two :: V => V\n"),
+    (
+        "a line ends with the S of another",
+        "E22",
+        "protocol T => U where\n One :: U => V\nprotocol W => V where\n Two :: V => V\n",
+    ),
     ("the second line ends with another name", "E22", "protocol T => U where\n One :: U => U\n Two :: U => T\n"),
     ("a line's type before its last name", "E21", "protocol T => U where\n One :: Put(Nobody | U) => T\n"),
     ("a line begins with the coprotocol's name", "E22", "coprotocol U => T where\n One :: T => U\n"),
@@ -111,7 +177,11 @@ LOCALS = [
     ("a line's first name before its type", "E22", "coprotocol U => T where\n One :: T => Put(Nobody | U)\n"),
     ("S may be declared by no name else", OK, "protocol T => Nobody where\n One :: Nobody => Nobody\n"),
     ("S of two protocols", OK, "protocol T => U where\n One :: U => U\ncoprotocol U => V where\n Two :: U => T\n"),
-    ("S as a constructor", "E21", "protocol T => U where\n One :: U => U\nproc t :: | Clock => where\n | c => -> do\n  hput U on c\n  halt\n"),
+    (
+        "S as a constructor",
+        "E21",
+        "protocol T => U where\n One :: U => U\nproc t :: | Clock => where\n | c => -> do\n  hput U on c\n  halt\n",
+    ),
 ]
 
 # Type variables, and where they are known. Behind each stands WORLD.
@@ -131,9 +201,21 @@ TYPE_VARIABLES = [
     ("a variable in a list of a process", "E21", "proc t :: Int, [a] | => where\n x, y | => -> halt\n"),
     ("a variable of an input", "E21", "proc t :: | Put(a | TopBot) => where\n | c => -> halt c\n"),
     ("a variable of an output", "E21", "proc t :: | => Stream(a) where\n | => c -> halt c\n"),
-    ("a variable of a link", "E21", "proc t :: | => where\n | => -> plug p :: Get(a | TopBot) of\n  => p -> halt p\n  p => -> halt p\n"),
-    ("a variable as the argument of a link", "E21", "proc t :: | => where\n | => -> plug p :: Stream(Maybe(a)) of\n  => p -> halt p\n  p => -> halt p\n"),
-    ("a process's variable as a type variable", "E21", "proc t :: Int | => where\n x | => -> plug p :: Stream(x) of\n  => p -> halt p\n  p => -> halt p\n"),
+    (
+        "a variable of a link",
+        "E21",
+        "proc t :: | => where\n | => -> plug p :: Get(a | TopBot) of\n  => p -> halt p\n  p => -> halt p\n",
+    ),
+    (
+        "a variable as the argument of a link",
+        "E21",
+        "proc t :: | => where\n | => -> plug p :: Stream(Maybe(a)) of\n  => p -> halt p\n  p => -> halt p\n",
+    ),
+    (
+        "a process's variable as a type variable",
+        "E21",
+        "proc t :: Int | => where\n x | => -> plug p :: Stream(x) of\n  => p -> halt p\n  p => -> halt p\n",
+    ),
     ("a function's name as a type variable", "E21", "data T where\n One(twice)\n"),
 ]
 
@@ -145,7 +227,12 @@ LATER = [
     ("other types", OK, ROW + "\"t\", Red -> 'c' + [True]\n"),
     ("a row is missing", OK, ROW + "0, 1 -> 2\n"),
     ("other numbers of channels and variables", OK, "proc t :: Int | Clock => where\n x, y | => c, d, e -> halt\n"),
-    ("a constructor of another protocol", OK, PROC + "do\n  hput ConsolePut on c\n  hcase d of\n   StringTerminalGet -> halt\n   StringTerminalGet -> halt\n"),
+    (
+        "a constructor of another protocol",
+        OK,
+        PROC + "do\n  hput ConsolePut on c\n  hcase d of\n   StringTerminalGet -> halt\n"
+        "   StringTerminalGet -> halt\n",
+    ),
     ("a call with other channels", OK, PROC + "idle(x, x | => c, d, e)\n"),
     ("a race of one", OK, PROC + "race\n  c -> halt c\n"),
     ("links of one name", OK, PROC + "plug p :: Clock, p :: Clock of\n  p, p => p -> halt\n"),
@@ -180,14 +267,35 @@ RUNS = [
     ("two consoles in one", "E24", "proc run :: | Console (*) Console => where\n | c => -> halt c\n"),
     ("a console behind a put", "E24", "proc run :: | Put(Int | Console) => where\n | c => -> halt c\n"),
     ("a terminal behind a get", "E24", "proc run :: | => Get(Int | StringTerminal) where\n | => c -> halt c\n"),
-    ("another coprotocol", "E24", "coprotocol S => Clock where\n Tick :: S => TopBot\nproc run :: | Clock => where\n | c => -> halt c\n"),
-    ("a coprotocol of equal lines", "E24", "coprotocol S => Con where\n Close :: S => TopBot\nproc run :: | Con => where\n | c => -> halt c\n"),
-    ("a protocol with an argument", "E24", "protocol P(a) => S where\n A :: Put(a | S) => S\nproc run :: | => P(Int) where\n | => c -> halt c\n"),
+    (
+        "another coprotocol",
+        "E24",
+        "coprotocol S => Clock where\n Tick :: S => TopBot\nproc run :: | Clock => where\n | c => -> halt c\n",
+    ),
+    (
+        "a coprotocol of equal lines",
+        "E24",
+        "coprotocol S => Con where\n Close :: S => TopBot\nproc run :: | Con => where\n | c => -> halt c\n",
+    ),
+    (
+        "a protocol with an argument",
+        "E24",
+        "protocol P(a) => S where\n A :: Put(a | S) => S\nproc run :: | => P(Int) where\n | => c -> halt c\n",
+    ),
     ("run's row with another number of channels", OK, "proc run :: | Console => where\n | => a, b -> halt\n"),
     ("run's row with a variable", OK, "proc run :: | => where\n x | => -> halt\n"),
     ("run behind others", OK, "data D where\n A\nfun f :: D -> Int where\n A -> 1\nproc run :: | => where\n | => -> halt\n"),
-    ("run before others", OK, "proc run :: | => where\n | => -> p(f(A) | => )\nproc p :: Int | => where\n _ | => -> halt\nfun f :: D -> Int where\n A -> 1\ndata D where\n A\n"),
+    (
+        "run before others",
+        OK,
+        "proc run :: | => where\n | => -> p(f(A) | => )\nproc p :: Int | => where\n _ | => -> halt\n"
+        "fun f :: D -> Int where\n A -> 1\ndata D where\n A\n",
+    ),
     ("run twice", "E20", "proc run :: | => where\n | => -> halt\nproc run :: Int | => where\n x | => -> halt\n"),
     ("a console with an argument", "E25", "proc run :: | Console(Int) => where\n | c => -> halt c\n"),
-    ("a terminal with an argument", "E25", "proc run :: Int | Console => StringTerminal([Char]) where\n x | c => t -> halt\n"),
+    (
+        "a terminal with an argument",
+        "E25",
+        "proc run :: Int | Console => StringTerminal([Char]) where\n x | c => t -> halt\n",
+    ),
 ]

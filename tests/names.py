@@ -10,6 +10,7 @@ Each declaration and each use is judged by itself, and the first of all faults i
 least place.
 """
 
+import os
 import sys
 from collections import namedtuple
 
@@ -17,6 +18,7 @@ import trees
 from grammar import HELLO, answer as answer_of_grammar, cases_of, text_of
 from trees import Coprotocol, Data, Function, Process, Protocol, tree_of
 
+HERE = os.path.dirname(os.path.abspath(__file__))
 MOST_CHANNELS = 16
 START = (1, 1)
 
@@ -287,43 +289,6 @@ fun first :: [a] -> Maybe(a) where
     x : _ -> Just(x)
 """
 
-EITHER = """fun either :: Maybe(a), a -> a where
-    None, y -> y
-    Just(x), _ -> x
-"""
-
-LINKED = """proc run :: | Console => where
-    | console => -> plug c :: Put(Maybe([Char]) | TopBot) of
-        => c -> do
-            put first(["one", "two"]) on c
-            halt c
-        c, console => -> do
-            get m on c
-            close c
-            hput ConsolePut on console
-            put either(m, "none") on console
-            hput ConsoleClose on console
-            halt console
-"""
-
-BOXED = """protocol Box(a) => S where
-    Give :: Put(Maybe(a) | TopBot) => S
-proc run :: | Console => where
-    | console => -> plug c :: Box([Char]) of
-        => c -> do
-            hput Give on c
-            put first(["one", "two"]) on c
-            halt c
-        c, console => -> hcase c of
-            Give -> do
-                get m on c
-                close c
-                hput ConsolePut on console
-                put either(m, "none") on console
-                hput ConsoleClose on console
-                halt console
-"""
-
 CHANNELS = "proc run :: | %s => %s where\n    | => -> halt\n"
 
 
@@ -335,8 +300,12 @@ def changed(text, line, old, new):
     return "".join(lines)
 
 
+def worked(name):
+    return text_of(os.path.join(HERE, "worked", name + ".campl"))
+
+
 def rows_worked_by_hand():
-    linked, boxed = FIRST + EITHER + LINKED, FIRST + EITHER + BOXED
+    maybe, box = worked("maybe"), worked("box")
     return [
         ("", "E23 NoRun at 1:1"),
         (" " * 1000, "E23 NoRun at 1:1"),
@@ -355,10 +324,10 @@ def rows_worked_by_hand():
         (changed(FIRST, 4, "Maybe(a)", "Console"), "E22 WrongKind at 4:21: name Console"),
         (changed(FIRST, 6, "Just(x)", "Just(y)"), "E21 Unknown at 6:19: name y"),
         (changed(FIRST, 6, "Just", "ConsolePut"), "E22 WrongKind at 6:14: name ConsolePut"),
-        (linked, "well declared"),
-        (changed(linked, 11, "Maybe([Char])", "Maybe"), "E25 TypeArguments at 11:35: found 0, wanted 1"),
-        (boxed, "well declared"),
-        (changed(boxed, 13, "Box([Char])", "Box"), "E25 TypeArguments at 13:31: found 0, wanted 1"),
+        (maybe, "well declared"),
+        (changed(maybe, 11, "Maybe([Char])", "Maybe"), "E25 TypeArguments at 11:35: found 0, wanted 1"),
+        (box, "well declared"),
+        (changed(box, 13, "Box([Char])", "Box"), "E25 TypeArguments at 13:31: found 0, wanted 1"),
         (CHANNELS % (", ".join(["Console"] * 9), ", ".join(["StringTerminal"] * 7)), "well declared"),
         (CHANNELS % (", ".join(["Console"] * 9), ", ".join(["StringTerminal"] * 8)), "E24 RunNotService at 1:6"),
         ("protocol P => S where\n    C :: Put(S | S) => T\n", "E22 WrongKind at 2:14: name S"),
