@@ -11,7 +11,7 @@ use campl_text::{FileShelf, Text, read_text};
 use std::alloc::Global;
 use std::env;
 use std::io::Write;
-use std::rt::Files;
+use std::rt::{Env, Files};
 
 // The last phase by which sources are judged.
 #[derive(Clone, Copy)]
@@ -73,12 +73,23 @@ fn print_answers(alloc: Global, phase: Phase, text: &Text, out: &mut impl Write)
     Ok(())
 }
 
+// The words after the program's name.
+fn words(rt: &(impl Env + AllocGlobal)) -> Result<Vec<String>> {
+    let mut words = Vec::new(rt.alloc());
+    for word in env::args(rt)?.skip(1) {
+        words.push(word)?;
+    }
+    Ok(words)
+}
+
 fn main(rt: HostRuntime) -> Result<()> {
-    let mut words = env::args(&rt)?.skip(1);
+    let words = words(&rt)?;
     let mut out = rt.stdout();
-    while let Some(word) = words.next() {
-        let phase = phase_of(word.as_str())?;
-        let file = words.next().context("give a file behind each phase")?;
+    for pair in words.chunks(2) {
+        let [phase, file] = pair else {
+            bail!("give a file behind each phase");
+        };
+        let phase = phase_of(phase.as_str())?;
         let text = text_of(&rt, rt.alloc(), file.as_str())?;
         print_answers(rt.alloc(), phase, &text, &mut out)?;
     }
