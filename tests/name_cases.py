@@ -249,6 +249,42 @@ def run_cases():
         yield "%d consoles and %d terminals" % (inputs, outputs), wanted, run_of(inputs, outputs)
 
 
+# ---- Many names, and scopes deep inside one another
+
+
+MANY, DEEP, LONG = 200, 150, "x" * 63
+
+
+def function(name, called):
+    return "fun %s :: Int -> Int where\n x -> %s(x)\n" % (name, called)
+
+
+def cases_in_cases(value):
+    """Cases in one another, each with a variable of its own, and a value in the innermost."""
+    rows = "".join("case x%d of x%d -> " % (level, level + 1) for level in range(DEEP))
+    return "fun f :: Int -> Int where\n x0 -> %s%s\n" % (rows, value) + RUN
+
+
+def large_cases():
+    functions = "".join(function("f%d" % number, "f%d" % (number * 7 % MANY)) for number in range(MANY))
+    yield "many functions", OK, functions + RUN
+    yield "many functions and an unknown one", "E21", functions + function("g", "f%d" % MANY) + RUN
+    yield "many functions and the first again", "E20", functions + function("f0", "f0") + RUN
+    lines = "data T where\n" + "".join(" C%d\n" % number for number in range(MANY))
+    yield "many constructors and the last again", "E20", lines + " C%d\n" % (MANY - 1) + RUN
+    yield "an unknown one of many constructors", "E21", lines + "fun f :: -> T where\n -> C%d\n" % MANY + RUN
+    parameters = ["a%d" % number for number in range(12)]
+    heading = "data T(%s) where\n C(%s)\n" % (", ".join(parameters), ", ".join(reversed(parameters)))
+    for found, wanted in ((12, OK), (11, "E25"), (13, "E25")):
+        named = "fun f :: T(%s) -> Int where\n _ -> 1\n" % ", ".join(["Int"] * found)
+        yield "%d for 12 arguments" % found, wanted, heading + named + RUN
+    yield "the outermost variable in the innermost case", OK, cases_in_cases("x0")
+    yield "the innermost variable", OK, cases_in_cases("x%d" % DEEP)
+    yield "an unknown variable in the innermost case", "E21", cases_in_cases("x%d" % (DEEP + 1))
+    for name, value, wanted in (("it", LONG + "x", OK), ("another", LONG + "y", "E21"), ("its front", LONG, "E21")):
+        yield "the longest name and " + name, wanted, "fun f :: Int -> Int where\n %sx -> %s\n" % (LONG, value) + RUN
+
+
 # ---- All
 
 
@@ -264,6 +300,7 @@ def groups():
     yield "arguments", argument_cases()
     yield "order", order_cases()
     yield "run", run_cases()
+    yield "large", large_cases()
     for group, rows in (("scope", SCOPES), ("local", LOCALS), ("type variable", TYPE_VARIABLES), ("later", LATER)):
         yield group, [(name, wanted, text + WORLD) for name, wanted, text in rows]
     yield "worked", worked_cases()
