@@ -2,7 +2,7 @@
 """The language's tokens, layout and grammar, a second time and in another way than the program's: the tests' reference.
 
     grammar.py FILE           prints `tree`, or the fault as the program prints it: `E10 Unexpected at 1:10`
-    grammar.py --answers FILE prints the answer for each case of a file of cases, as crates/grammar_cases does
+    grammar.py --answers FILE prints the answer for each case of a file of cases, as crates/source_cases does
     grammar.py --check        checks this reference by rows that were worked by hand
 
 The grammar is data (RULES). A source is read by keeping every derivation that its words so far can begin; the first word

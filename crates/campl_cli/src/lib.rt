@@ -20,6 +20,7 @@ mod words;
 pub use command::campl;
 pub use fault::{Detail, FaultKind, SourceFault};
 pub use gate::{Gate, OpenGate};
+pub use names::judge_names;
 pub use printer::{Printer, printer_of};
 pub use refusal::{Refusal, SOURCE_LIMIT};
 pub use report::{Ended, Report};
