@@ -1,0 +1,110 @@
+-- How the headers of a plug divide what is held, by a test that computes.
+use Rattle.std.proofs.Common.{◌≡◌, ◌∙◌, ◌⊎◌, inl, inr, refl, sym, subst, ℕ, ◌+◌, ◌≤◌, Bool, true, false, ◌&&◌, ◌||◌, IsTrue, if◌then◌else◌, List, [], ◌∷◌, ◌++◌, Option, Some, None, true≢false, nat_eq, nat_le, eqb-true, leb-true, map}
+use Rattle.campl_tree.specs.declared.place.Ident.{Ident}
+use Rattle.campl_tree.specs.declared.service.Side.{Side}
+use Rattle.campl_tree.specs.declared.service.Side.TheVariants.{Input, Output}
+use Rattle.campl_tree.specs.Plain.ChanType.{ChanType}
+use Rattle.campl_tree.specs.Plain.Process.{Link, Header, Parts, no_parts, part_then}
+use Rattle.campl_types.specs.Names.{Name, same_name, is_among, all_among, are_distinct, found}
+use Rattle.campl_types.specs.World.{names_of}
+use Rattle.campl_types.specs.Held.{Channel, On, Held}
+use Rattle.campl_types.specs.Headers.{Links, link_names, links_in, times, times_in, times_out, IsUsed, NamesDiffer, Divide}
+use Rattle.campl_types.proofs.Names.{same-turned, split-names}
+use Rattle.typed_sources.proofs.Within.{Within, not-left, not-right, not-first, not-rest, first-true, rest-true}
+
+-- whether a name is used as it has to be
+abbrev is_used : Option ChanType → Option Channel → (outputs inputs : ℕ) → Bool
+is_used (Some t) None outputs inputs = nat_eq outputs 1 && nat_eq inputs 1
+is_used (Some t) (Some c) outputs inputs = false
+is_used None (Some (On Output t)) outputs inputs = nat_eq outputs 1 && nat_eq inputs 0
+is_used None (Some (On Input t)) outputs inputs = nat_eq outputs 0 && nat_eq inputs 1
+is_used None None outputs inputs = nat_eq outputs 0 && nat_eq inputs 0
+
+used-is : (link : Option ChanType) (held : Option Channel) (outputs inputs : ℕ) → IsTrue (is_used link held outputs inputs) → IsUsed link held outputs inputs
+used-is (Some t) None m n i = (eqb-true m 1 (first-true (nat_eq m 1) (nat_eq n 1) i), eqb-true n 1 (rest-true (nat_eq m 1) (nat_eq n 1) i))
+used-is (Some t) (Some c) m n i = absurd (true≢false (sym i))
+used-is None (Some (On Output t)) m n i = (eqb-true m 1 (first-true (nat_eq m 1) (nat_eq n 0) i), eqb-true n 0 (rest-true (nat_eq m 1) (nat_eq n 0) i))
+used-is None (Some (On Input t)) m n i = (eqb-true m 0 (first-true (nat_eq m 0) (nat_eq n 1) i), eqb-true n 1 (rest-true (nat_eq m 0) (nat_eq n 1) i))
+used-is None None m n i = (eqb-true m 0 (first-true (nat_eq m 0) (nat_eq n 0) i), eqb-true n 0 (rest-true (nat_eq m 0) (nat_eq n 0) i))
+
+abbrev pub all_used : List Name → Links → Held → Parts → Bool
+all_used [] links held parts = true
+all_used (x ∷ xs) links held parts = is_used (links x) (held x) (times_out x parts) (times_in x parts) && all_used xs links held parts
+
+abbrev pub header_names : Parts → List Name
+header_names no_parts = []
+header_names (part_then h body parts) = names_of h.inputs ++ (names_of h.outputs ++ header_names parts)
+
+abbrev pub names_differ : Parts → Bool
+names_differ no_parts = true
+names_differ (part_then h body parts) = are_distinct (names_of h.inputs ++ names_of h.outputs) && names_differ parts
+
+differ : (parts : Parts) → IsTrue (names_differ parts) → NamesDiffer parts
+differ no_parts i = tt
+differ (part_then h body parts) i =
+    let d = are_distinct (names_of h.inputs ++ names_of h.outputs) in (first-true d (names_differ parts) i, differ parts (rest-true d (names_differ parts) i))
+
+-- Outside of all names
+
+no-link : (x : Name) (links : List Link) → is_among x (link_names links) ≡ false → links_in links x ≡ None
+no-link x [] i = refl
+no-link x (l ∷ links) i =
+    rw (not-first (same_name x l.name.name) (is_among x (link_names links)) i) (no-link x links (not-rest (same_name x l.name.name) (is_among x (link_names links)) i))
+
+no-times : (x : Name) (ys : List Ident) → is_among x (names_of ys) ≡ false → times x ys ≡ 0
+no-times x [] i = refl
+no-times x (y ∷ ys) i =
+    rw (not-first (same_name x y.name) (is_among x (names_of ys)) i, no-times x ys (not-rest (same_name x y.name) (is_among x (names_of ys)) i)) refl
+
+no-inputs : (x : Name) (parts : Parts) → is_among x (header_names parts) ≡ false → times_in x parts ≡ 0
+no-inputs x no_parts i = refl
+no-inputs x (part_then h body parts) i =
+    let later = names_of h.outputs ++ header_names parts in
+    rw (no-times x h.inputs (not-left x (names_of h.inputs) later i), no-inputs x parts (not-right x (names_of h.outputs) (header_names parts) (not-right x (names_of h.inputs) later i))) refl
+
+no-outputs : (x : Name) (parts : Parts) → is_among x (header_names parts) ≡ false → times_out x parts ≡ 0
+no-outputs x no_parts i = refl
+no-outputs x (part_then h body parts) i =
+    let later = not-right x (names_of h.inputs) (names_of h.outputs ++ header_names parts) i in
+    rw (no-times x h.outputs (not-left x (names_of h.outputs) (header_names parts) later), no-outputs x parts (not-right x (names_of h.outputs) (header_names parts) later)) refl
+
+-- A name that is among all, or not
+
+passes : (names : List Name) (links : Links) (held : Held) (parts : Parts) (y : Name) → IsTrue (all_used names links held parts)
+    → (is_among y names ≡ false) ⊎ IsTrue (is_used (links y) (held y) (times_out y parts) (times_in y parts))
+passes [] links held parts y t = inl refl
+passes (x ∷ xs) links held parts y t = go (split-names y x) (passes xs links held parts y (rest-true (used x) (all_used xs links held parts) t))
+  where
+    used : Name → Bool
+    used z = is_used (links z) (held z) (times_out z parts) (times_in z parts)
+
+    go : (y ≡ x) ⊎ (same_name y x ≡ false) → (is_among y xs ≡ false) ⊎ IsTrue (used y) → (is_among y (x ∷ xs) ≡ false) ⊎ IsTrue (used y)
+    go (inl i) other = inr (subst (λ z. IsTrue (used z)) (sym i) (first-true (used x) (all_used xs links held parts) t))
+    go (inr i) (inl j) = inl (rw (i, j) refl)
+    go (inr i) (inr j) = inr j
+
+-- what is held is divided where each link, each held channel and each name of a header is used as it has to be
+pub divided : (links : List Link) {names : List Name} {held : Held} (parts : Parts) → Within names held
+    → IsTrue (all_used (link_names links ++ (names ++ header_names parts)) (links_in links) held parts && names_differ parts)
+    → Divide (links_in links) held parts
+divided links {names} {held} parts h t = (used, differ parts (rest-true (all_used all (links_in links) held parts) (names_differ parts) t))
+  where
+    all : List Name
+    all = link_names links ++ (names ++ header_names parts)
+
+    unused : (x : Name) → is_among x all ≡ false → IsUsed (links_in links x) (held x) (times_out x parts) (times_in x parts)
+    unused x i =
+        let later = not-right x (link_names links) (names ++ header_names parts) i in
+        let headers = not-right x names (header_names parts) later in
+        rw (no-link x links (not-left x (link_names links) (names ++ header_names parts) i), h.elsewhere x (not-left x names (header_names parts) later), no-outputs x parts headers, no-inputs x parts headers) (refl, refl)
+
+    used : (x : Name) → IsUsed (links_in links x) (held x) (times_out x parts) (times_in x parts)
+    used x = go (passes all (links_in links) held parts x (first-true (all_used all (links_in links) held parts) (names_differ parts) t))
+      where
+        go : (is_among x all ≡ false) ⊎ IsTrue (is_used (links_in links x) (held x) (times_out x parts) (times_in x parts)) → IsUsed (links_in links x) (held x) (times_out x parts) (times_in x parts)
+        go (inl i) = unused x i
+        go (inr i) = used-is (links_in links x) (held x) (times_out x parts) (times_in x parts) i
+
+-- so many parts or branches
+pub between-is : (least n most : ℕ) → IsTrue (nat_le least n && nat_le n most) → (least ≤ n) × (n ≤ most)
+between-is least n most i = (leb-true least n (first-true (nat_le least n) (nat_le n most) i), leb-true n most (rest-true (nat_le least n) (nat_le n most) i))
