@@ -1,6 +1,6 @@
 -- A derivation that a body is well formed, command by command. It carries the names outside of which
 -- nothing is held, so that the facts for all names at its ends follow by tests that compute.
-use Rattle.std.proofs.Common.{◌≡◌, refl, Bool, true, IsTrue, List, [], ◌∷◌, ◌++◌, Option, Some, None}
+use Rattle.std.proofs.Common.{◌≡◌, IsTrue, List, [], ◌∷◌, Some, None}
 use Rattle.campl_tree.specs.declared.place.Place.{Place}
 use Rattle.campl_tree.specs.declared.place.Ident.{Ident}
 use Rattle.campl_tree.specs.declared.process.Binder.{Binder}

@@ -1,15 +1,14 @@
 -- How the headers of a plug divide what is held, by a test that computes.
-use Rattle.std.proofs.Common.{◌≡◌, ◌∙◌, ◌⊎◌, inl, inr, refl, sym, subst, ℕ, ◌+◌, ◌≤◌, Bool, true, false, ◌&&◌, ◌||◌, IsTrue, if◌then◌else◌, List, [], ◌∷◌, ◌++◌, Option, Some, None, true≢false, nat_eq, nat_le, eqb-true, leb-true, map}
+use Rattle.std.proofs.Common.{◌≡◌, ◌⊎◌, inl, inr, refl, sym, subst, ℕ, ◌≤◌, Bool, true, false, ◌&&◌, IsTrue, List, [], ◌∷◌, ◌++◌, Option, Some, None, true≢false, nat_eq, nat_le, eqb-true, leb-true}
 use Rattle.campl_tree.specs.declared.place.Ident.{Ident}
-use Rattle.campl_tree.specs.declared.service.Side.{Side}
 use Rattle.campl_tree.specs.declared.service.Side.TheVariants.{Input, Output}
 use Rattle.campl_tree.specs.Plain.ChanType.{ChanType}
-use Rattle.campl_tree.specs.Plain.Process.{Link, Header, Parts, no_parts, part_then}
-use Rattle.campl_types.specs.Names.{Name, same_name, is_among, all_among, are_distinct, found}
+use Rattle.campl_tree.specs.Plain.Process.{Link, Parts, no_parts, part_then}
+use Rattle.campl_types.specs.Names.{Name, same_name, is_among, are_distinct}
 use Rattle.campl_types.specs.World.{names_of}
 use Rattle.campl_types.specs.Held.{Channel, On, Held}
 use Rattle.campl_types.specs.Headers.{Links, link_names, links_in, times, times_in, times_out, IsUsed, NamesDiffer, Divide}
-use Rattle.campl_types.proofs.Names.{same-turned, split-names}
+use Rattle.campl_types.proofs.Names.{split-names}
 use Rattle.typed_sources.proofs.Within.{Within, not-left, not-right, not-first, not-rest, first-true, rest-true}
 
 -- whether a name is used as it has to be

@@ -1,5 +1,5 @@
 -- The last commands of a derivation, and the derivation of a process.
-use Rattle.std.proofs.Common.{◌≡◌, refl, ◌≤◌, Bool, true, false, not, ◌&&◌, IsTrue, List, [], ◌∷◌, ◌++◌, Option, Some, None, length, nat_le}
+use Rattle.std.proofs.Common.{◌≡◌, Bool, false, not, ◌&&◌, IsTrue, List, [], ◌∷◌, ◌++◌, Some, length, nat_le}
 use Rattle.campl_tree.specs.declared.place.Place.{Place}
 use Rattle.campl_tree.specs.declared.place.Ident.{Ident}
 use Rattle.campl_tree.specs.declared.service.Side.{Side}
@@ -20,7 +20,7 @@ use Rattle.campl_types.specs.Fits.{Vars, fits}
 use Rattle.campl_types.specs.Sequential.{HasType, Found, PartsHaveTypes, AreExhaustive}
 use Rattle.campl_types.specs.Held.{On, Held, with, without, only}
 use Rattle.campl_types.specs.Headers.{Links, links_in, link_names, share, count}
-use Rattle.campl_types.specs.Linear.{IsWellFormed, RowsAreWellFormed, BranchesAreWellFormed, CasesAreWellFormed, PartsAreWellFormed, ProcessIsTyped, AreNew, HasEachOnce, AreHanded, AreJoined, body_rows, receives_on, most_parts, most_branches, row_variables, row_channels}
+use Rattle.campl_types.specs.Linear.{RowsAreWellFormed, BranchesAreWellFormed, CasesAreWellFormed, PartsAreWellFormed, ProcessIsTyped, AreNew, HasEachOnce, AreHanded, AreJoined, body_rows, receives_on, most_parts, most_branches, row_variables, row_channels}
 use Rattle.typed_sources.proofs.Within.{Within, more, kept, shared, of-row, alone, closed, all_held, is_gone, is_plain}
 use Rattle.typed_sources.proofs.Divided.{divided, all_used, header_names, names_differ, between-is}
 use Rattle.typed_sources.proofs.Actions.{Flows}

@@ -72,7 +72,7 @@ kept keep {names} {held} h = record { elsewhere = λ y i. go (keep y) (h.elsewhe
 pub shared : (links : Links) (held : Held) (h : Header) → Within (names_of h.outputs ++ names_of h.inputs) (share links held h)
 shared links held h =
     record {
-      elsewhere = λ y i. 
+      elsewhere = λ y i.
           rw (not-left y (names_of h.outputs) (names_of h.inputs) i, not-right y (names_of h.outputs) (names_of h.inputs) i) refl;
     }
 

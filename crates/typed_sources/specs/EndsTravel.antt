@@ -25,7 +25,7 @@
 --                 halt p
 use Rattle.std.specs.Prelude.{[], ◌∷◌, Some, codes}
 use Rattle.campl_tree.specs.Plain.Decl.{Program}
-use Rattle.typed_sources.specs.Trees.{place, ident, header, link, row, ◌⨾◌}
+use Rattle.typed_sources.specs.Trees.{place, ident, header, link, ◌⨾◌}
 use Rattle.campl_tree.specs.declared.process.Binder.TheVariants as binder
 use Rattle.campl_tree.specs.Plain.SeqType as s
 use Rattle.campl_tree.specs.Plain.ChanType as c

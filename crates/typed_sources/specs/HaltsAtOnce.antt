@@ -4,7 +4,7 @@
 --         | => -> halt
 use Rattle.std.specs.Prelude.{[], ◌∷◌, None, codes}
 use Rattle.campl_tree.specs.Plain.Decl.{Program}
-use Rattle.typed_sources.specs.Trees.{place, ident, row}
+use Rattle.typed_sources.specs.Trees.{place, ident}
 use Rattle.campl_tree.specs.Plain.Process as b
 use Rattle.campl_tree.specs.Plain.Decl as d
 

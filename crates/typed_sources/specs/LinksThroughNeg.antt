@@ -18,7 +18,7 @@
 --                 halt w
 use Rattle.std.specs.Prelude.{[], ◌∷◌, Some, codes, true, false}
 use Rattle.campl_tree.specs.Plain.Decl.{Program}
-use Rattle.typed_sources.specs.Trees.{place, ident, header, link, row, ◌⨾◌}
+use Rattle.typed_sources.specs.Trees.{place, ident, header, link, ◌⨾◌}
 use Rattle.campl_tree.specs.declared.process.Binder.TheVariants as binder
 use Rattle.campl_tree.specs.Plain.SeqType as s
 use Rattle.campl_tree.specs.Plain.ChanType as c

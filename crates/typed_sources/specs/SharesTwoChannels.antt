@@ -10,7 +10,7 @@
 --                 halt d
 use Rattle.std.specs.Prelude.{[], ◌∷◌, Some, codes}
 use Rattle.campl_tree.specs.Plain.Decl.{Program}
-use Rattle.typed_sources.specs.Trees.{place, ident, header, link, row, ◌⨾◌}
+use Rattle.typed_sources.specs.Trees.{place, ident, header, link, ◌⨾◌}
 use Rattle.campl_tree.specs.Plain.ChanType as c
 use Rattle.campl_tree.specs.Plain.Process as b
 use Rattle.campl_tree.specs.Plain.Decl as d
