@@ -19,14 +19,28 @@ def ident(name):
     return f"(ident {name.place[0]} {name.place[1]} {text(name.name)})"
 
 
-def plain_list(items):
+def bare(term):
+    """The term without brackets round the whole of it; a tuple keeps them."""
+    depth = 0
+    for at, sign in enumerate(term):
+        depth += (sign == "(") - (sign == ")")
+        if depth == 0:
+            return term[1:-1] if at == len(term) - 1 and sign == ")" else term
+        if depth == 1 and sign == ",":
+            return term
+    return term
+
+
+def plain_list(items, between=" "):
     """A list of antt's own."""
-    return "[]" if not items else "(" + " ∷ ".join(items) + " ∷ [])"
+    return "[]" if not items else "(" + f"{between}∷ ".join([*map(bare, items), "[]"]) + ")"
 
 
-def chained(link, end, items):
+def chained(link, end, items, between=" "):
     """A list of the trees' own: each item in brackets, one inside the other."""
-    return end if not items else f"({link} {items[0]} {chained(link, end, items[1:])})"
+    for item in reversed(items):
+        end = f"({link} {item}{between}{end})"
+    return end
 
 
 # Types
@@ -110,7 +124,7 @@ def exprs(nodes):
 
 
 def expr_rows(rows):
-    return chained("e.expr_row_then", "e.no_expr_rows", [f"{pattern(p)} {expr(v)}" for p, v in rows])
+    return "\n" + chained("e.expr_row_then", "e.no_expr_rows", [f"{pattern(p)} {expr(v)}" for p, v in rows], "\n")
 
 
 def expr(node):
@@ -133,7 +147,7 @@ def expr(node):
         case t.List(_, items):
             return f"(e.List {at} {exprs(items)})"
         case t.CaseOf(_, value, rows):
-            return f"(e.Case {at} {expr(value)} {expr_rows(rows)})"
+            return f"(e.Case {at} {expr(value)}{expr_rows(rows)})"
         case t.Compare(_, left, operator, right):
             return f"(e.Compare {at} {expr(left)} compare.{COMPARISONS[operator]} {expr(right)})"
         case t.Calculate(_, left, operator, right):
@@ -172,11 +186,17 @@ def action(node):
 
 
 def body(node):
-    return "(" + " ⨾ ".join([action(a) for a in node.actions] + [last(node.last)]) + ")"
+    """A line for each command; rt fmt indents them."""
+    return "(" + " ⨾\n".join([action(a) for a in node.actions] + [last(node.last)]) + ")"
+
+
+def bodies(link, end, rows):
+    """Rows with bodies: the head of each as a term, and its body, on lines of their own."""
+    return "\n" + chained(link, end, [f"{head}\n{body(inner)}" for head, inner in rows], "\n")
 
 
 def named_bodies(link, end, rows):
-    return chained(link, end, [f"{ident(name)} {body(inner)}" for name, inner in rows])
+    return bodies(link, end, [(ident(name), inner) for name, inner in rows])
 
 
 def idents(names):
@@ -184,7 +204,7 @@ def idents(names):
 
 
 def part(node):
-    return f"(header {place(node.place)} {idents(node.inputs)} {idents(node.outputs)}) {body(node.body)}"
+    return f"(header {place(node.place)} {idents(node.inputs)} {idents(node.outputs)})", node.body
 
 
 def last(node):
@@ -195,17 +215,17 @@ def last(node):
         case t.Halt(_, channel):
             return f"b.Halt {at} (Some {ident(channel)})"
         case t.Hcase(_, channel, rows):
-            return f"b.Hcase {at} {ident(channel)} {named_bodies('b.hcase_row_then', 'b.no_hcase_rows', rows)}"
+            return f"b.Hcase {at} {ident(channel)}{named_bodies('b.hcase_row_then', 'b.no_hcase_rows', rows)}"
         case t.Race(_, rows):
-            return f"b.Race {at} {named_bodies('b.branch_then', 'b.no_branches', rows)}"
+            return f"b.Race {at}{named_bodies('b.branch_then', 'b.no_branches', rows)}"
         case t.Fork(_, channel, (left, left_body), (right, right_body)):
-            return f"b.Fork {at} {ident(channel)} {ident(left)} {body(left_body)} {ident(right)} {body(right_body)}"
+            return f"b.Fork {at} {ident(channel)}\n{ident(left)}\n{body(left_body)}\n{ident(right)}\n{body(right_body)}"
         case t.Plug(_, links, parts):
             made = plain_list([f"link {ident(l.name)} {chan_type(l.channel_type)}" for l in links])
-            return f"b.Plug {at} {made} {chained('b.part_then', 'b.no_parts', [part(p) for p in parts])}"
+            return f"b.Plug {at}\n{made}{bodies('b.part_then', 'b.no_parts', [part(p) for p in parts])}"
         case t.Case(_, value, rows):
-            told = [f"{pattern(p)} {body(inner)}" for p, inner in rows]
-            return f"b.Case {at} {expr(value)} {chained('b.case_row_then', 'b.no_case_rows', told)}"
+            told = bodies("b.case_row_then", "b.no_case_rows", [(pattern(p), inner) for p, inner in rows])
+            return f"b.Case {at} {expr(value)}{told}"
         case t.Identity(_, left, negated, right):
             return f"b.Identity {at} {text(left)} {str(negated).lower()} {ident(right)}"
         case t.ProcessCall(_, name, arguments, inputs, outputs):

@@ -12,7 +12,7 @@ import re
 import sys
 
 import trees as t
-from antt_trees import binder, body, chan_type, expr, ident, idents, patterns, place, plain_list, seq_type
+from antt_trees import bare, binder, body, chan_type, expr, ident, idents, patterns, place, plain_list, seq_type
 from trees import tree_of
 from typing_linear import process_term
 from typing_sequential import World, function_term
@@ -60,6 +60,13 @@ def camel(name):
     return "".join(word.capitalize() for word in name.split("_"))
 
 
+def definition(name, kind, term):
+    """A definition whose lines rt fmt can lay out, since each stands to the right."""
+    told = term.replace("\n", "\n    ")
+    start = "\n    " if "\n" in term else " "
+    return f"{name} : {kind}\n{name.removeprefix('abbrev ').removeprefix('pub ')} ={start}{told}"
+
+
 def declared_as(declaration):
     return f"{declaration.name.name.lower()}_{KINDS[type(declaration)]}"
 
@@ -79,24 +86,29 @@ def imports(words, text):
 # Trees
 
 
+def line(**fields):
+    """A record on one line."""
+    return "record { " + "; ".join(f"{name} = {bare(value)}" for name, value in fields.items()) + " }"
+
+
 def record(**fields):
-    return "record { " + "; ".join(f"{name} = {value}" for name, value in fields.items()) + " }"
+    return "record {\n" + ";\n".join(f"{name} = {bare(value)}" for name, value in fields.items()) + "; }"
 
 
 def declaration_term(node):
     at, name = place(node.place), ident(node.name)
     match node:
         case t.Data(_, _, parameters, constructors):
-            lines = [record(name=ident(k.name), parts=plain_list([seq_type(u) for u in k.parts])) for k in constructors]
-            return "DataDecl", record(place=at, name=name, parameters=idents(parameters), constructors=plain_list(lines))
+            lines = [line(name=ident(k.name), parts=plain_list([seq_type(u) for u in k.parts])) for k in constructors]
+            return "DataDecl", record(place=at, name=name, parameters=idents(parameters), constructors=plain_list(lines, "\n"))
         case t.Protocol(_, _, parameters, local, lines):
-            told = [record(name=ident(k.name), channel_type=chan_type(k.channel_type), local=ident(k.local)) for k in lines]
-            fields = record(place=at, name=name, parameters=idents(parameters), local=ident(local), constructors=plain_list(told))
+            told = [line(name=ident(k.name), channel_type=chan_type(k.channel_type), local=ident(k.local)) for k in lines]
+            fields = record(place=at, name=name, parameters=idents(parameters), local=ident(local), constructors=plain_list(told, "\n"))
             return "ProtocolDecl", fields
         case t.Function(_, _, parameters, result, rows):
             types = plain_list([seq_type(u) for u in parameters])
             told = [f"row {place(r.place)} {patterns(r.patterns)} {expr(r.value)}" for r in rows]
-            return "FunctionDecl", record(place=at, name=name, parameters=types, result=seq_type(result), rows=plain_list(told))
+            return "FunctionDecl", record(place=at, name=name, parameters=types, result=seq_type(result), rows=plain_list(told, "\n"))
         case t.Process(_, _, parameters, inputs, outputs, row):
             variables = plain_list([binder(v) for v in row.variables])
             names = {"variables": variables, "inputs": idents(row.inputs), "outputs": idents(row.outputs)}
@@ -111,9 +123,9 @@ def tree_file(name, source, declarations):
     parts = []
     for node in declarations:
         kind, term = declaration_term(node)
-        parts.append(f"abbrev pub {declared_as(node)} : d.{kind}\n{declared_as(node)} = {term}")
-    whole = " ∷ ".join([f"d.{KINDS[type(node)].capitalize()} {declared_as(node)}" for node in declarations] + ["[]"])
-    parts.append(f"abbrev pub {name} : Program\n{name} = {whole}")
+        parts.append(definition(f"abbrev pub {declared_as(node)}", f"d.{kind}", term))
+    whole = bare(plain_list([f"d.{KINDS[type(node)].capitalize()} {declared_as(node)}" for node in declarations]))
+    parts.append(definition(f"abbrev pub {name}", "Program", whole))
     text = "\n\n".join(parts)
     comment = "\n".join(f"--     {line}".rstrip() for line in source.rstrip("\n").split("\n"))
     return f"-- The tree of this source:\n--\n{comment}\n{imports(WORDS_OF_TREES, text)}\n\n{text}\n"
@@ -158,15 +170,15 @@ def judged(declarations, kind):
 
 
 def proof_file(name, declarations):
-    world, parts = world_of(declarations), [f"abbrev w : World\nw = world_of {name}"]
+    world, parts = world_of(declarations), [definition("abbrev w", "World", f"world_of {name}")]
     for node in declarations:
         its = declared_as(node)
         if isinstance(node, t.Function):
-            parts.append(f"{its}-typed : FunctionIsTyped w {its}\n{its}-typed = {function_term(world, node)}")
+            parts.append(definition(f"{its}-typed", f"FunctionIsTyped w {its}", function_term(world, node)))
         if isinstance(node, t.Process):
-            parts.append(f"{its}-typed : ProcessIsTyped w {its}\n{its}-typed = {process_term(world, node, its)}")
+            parts.append(definition(f"{its}-typed", f"ProcessIsTyped w {its}", process_term(world, node, its)))
     whole = record(declared="refl", functions=judged(declarations, t.Function), processes=judged(declarations, t.Process))
-    parts.append(f"pub typed : IsTyped {name}\ntyped = {whole}")
+    parts.append(definition("pub typed", f"IsTyped {name}", whole))
     text = "\n\n".join(parts)
     trees = [declared_as(node) for node in declarations if isinstance(node, (t.Function, t.Process))]
     own = f"use {SOURCES}.specs.{camel(name)}.{{{', '.join([*trees, name])}}}"

@@ -134,22 +134,22 @@ class Process:
         match action:
             case t.Put(_, value, x):
                 kind = self.wanting(x, "puts")
-                return f"put refl refl {self.typing.check(value, kind.value)} ({self.turned(x.name, kind.rest).actions(rest, last)})"
+                return f"put refl refl {self.typing.check(value, kind.value)}\n({self.turned(x.name, kind.rest).actions(rest, last)})"
             case t.Get(_, binder, x):
                 kind = self.wanting(x, "gets")
                 then = self.turned(x.name, kind.rest).binding(binds(self.world, binder, kind.value))
-                return f"get refl refl ({then.actions(rest, last)})"
+                return f"get refl refl\n({then.actions(rest, last)})"
             case t.Hput(_, constructor, x):
                 choices = self.choices(self.wanting(x, "picks"))
-                return f"hput refl refl refl ({self.turned(x.name, choices[constructor.name]).actions(rest, last)})"
+                return f"hput refl refl refl\n({self.turned(x.name, choices[constructor.name]).actions(rest, last)})"
             case t.Split(_, x, y, z):
                 kind, side = self.wanting(x, "splits"), self.held[x.name][0]
                 self.new(x, y, z)
                 then = self.without(x.name) | {y.name: (side, kind.left), z.name: (side, kind.right)}
-                return f"split refl refl (refl, refl, refl) ({self.holding(then).actions(rest, last)})"
+                return f"split refl refl (refl, refl, refl)\n({self.holding(then).actions(rest, last)})"
             case t.Close(_, x):
                 self.wanting(x, "ends")
-                return f"close refl refl ({self.holding(self.without(x.name)).actions(rest, last)})"
+                return f"close refl refl\n({self.holding(self.without(x.name)).actions(rest, last)})"
         raise ValueError(action)
 
     def alone(self, *names):
@@ -186,8 +186,8 @@ class Process:
         expect(sorted(choices) == sorted(name.name for name, _ in node.rows), node)
         told = "no-rows"
         for name, body in reversed(node.rows):
-            told = f"(row refl ({self.turned(node.channel.name, choices[name.name]).body(body)}) {told})"
-        return f"hcase refl refl (refl, refl) {told}"
+            told = f"(row refl\n({self.turned(node.channel.name, choices[name.name]).body(body)})\n{told})"
+        return f"hcase refl refl (refl, refl)\n{told}"
 
     def fork(self, node):
         (y, left), (z, right) = node.first, node.second
@@ -197,7 +197,7 @@ class Process:
         first = {x: c for x, c in others.items() if x in wanted} | {y.name: (side, kind.left)}
         second = {x: c for x, c in others.items() if x not in wanted} | {z.name: (side, kind.right)}
         keeps = plain_list([text(x) for x in others if x in wanted])
-        return f"fork {keeps} refl refl (refl, refl, refl) ({self.holding(first).body(left)}) ({self.holding(second).body(right)})"
+        return f"fork {keeps} refl refl (refl, refl, refl)\n({self.holding(first).body(left)})\n({self.holding(second).body(right)})"
 
     def plug(self, node):
         links = {link.name.name: link.channel_type for link in node.links}
@@ -207,10 +207,10 @@ class Process:
             share = {x.name: self.half(links, x.name, "Input") for x in part.inputs}
             share |= {x.name: self.half(links, x.name, "Output") for x in part.outputs}
             used += [(x.name, "Input") for x in part.inputs] + [(x.name, "Output") for x in part.outputs]
-            told = f"(part ({self.holding(share).body(part.body)}) {told})"
+            told = f"(part\n({self.holding(share).body(part.body)})\n{told})"
         wanted = [(x, side) for x in links for side in OTHER] + [(x, side) for x, (side, _) in self.held.items()]
         expect(sorted(used) == sorted(wanted), used, wanted)
-        return f"plug refl refl refl {told}"
+        return f"plug refl refl refl\n{told}"
 
     def half(self, links, name, side):
         """What a header's name stands for on this side."""
@@ -221,15 +221,15 @@ class Process:
     def race(self, node):
         told = "no-branches"
         for _, body in reversed(node.rows):
-            told = f"(branch refl ({self.body(body)}) {told})"
-        return f"race refl refl {told}"
+            told = f"(branch refl\n({self.body(body)})\n{told})"
+        return f"race refl refl\n{told}"
 
     def case(self, node):
         kind, found = self.typing.find(node.value)
         told = "no-cases"
         for pattern, body in reversed(node.rows):
-            told = f"(when refl refl ({self.binding(binds(self.world, pattern, kind)).body(body)}) {told})"
-        return f"match {shown(kind)} {found} {told} refl"
+            told = f"(when refl refl\n({self.binding(binds(self.world, pattern, kind)).body(body)})\n{told})"
+        return f"match {shown(kind)} {found}\n{told}\nrefl"
 
     def joined(self, x, negated, y):
         expect(x in self.held and y.name in self.held and x != y.name, x, y)
@@ -264,4 +264,4 @@ def process_term(world, process, name):
     held = {x.name: ("Input", kind) for x, kind in zip(row.inputs, process.inputs, strict=True)}
     held |= {x.name: ("Output", kind) for x, kind in zip(row.outputs, process.outputs, strict=True)}
     bound = [x for v, kind in zip(row.variables, process.parameters, strict=True) for x in binds(world, v, kind)]
-    return f"process w {name} refl refl refl refl refl ({Process(world, dict(bound), held).body(row.body)})"
+    return f"process w {name} refl refl refl refl refl\n({Process(world, dict(bound), held).body(row.body)})"

@@ -283,11 +283,11 @@ def once_in(function):
     return list(dict.fromkeys(x for kind in [*function.parameters, function.result] for x in variables_of(kind)))
 
 
-def nested(terms):
+def nested(terms, between=" "):
     """One term for each, in pairs that end with the unit."""
     told = "tt"
     for term in reversed(terms):
-        told = f"({term}, {told})"
+        told = f"({term},{between}{told})"
     return told
 
 
@@ -297,4 +297,5 @@ def function_term(world, function):
     for row in function.rows:
         bound = [x for p, kind in zip(row.patterns, function.parameters, strict=True) for x in binds(world, p, kind)]
         rows.append(f"(_, refl, refl, {Typing(world, dict(bound)).check(row.value, function.result)})")
-    return f"({nested(rows)}, refl)"
+    told = nested(rows, "\n")
+    return f"({told},\nrefl)"

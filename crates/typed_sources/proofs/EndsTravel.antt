@@ -11,7 +11,35 @@ abbrev w : World
 w = world_of ends_travel
 
 run_process-typed : ProcessIsTyped w run_process
-run_process-typed = process w run_process refl refl refl refl refl (plug refl refl refl (part (fork ((codes "k1") ∷ []) refl refl (refl, refl, refl) (get refl refl (close refl refl (hput refl refl refl (put refl refl (_, refl, refl) (hput refl refl refl (halt refl refl refl)))))) (get refl refl (close refl refl (hput refl refl refl (put refl refl (_, refl, refl) (hput refl refl refl (halt refl refl refl))))))) (part (split refl refl (refl, refl, refl) (put refl refl refl (close refl refl (put refl refl refl (halt refl refl refl))))) no-parts)))
+run_process-typed =
+    process w run_process refl refl refl refl refl
+    (plug refl refl refl
+    (part
+    (fork (codes "k1" ∷ []) refl refl (refl, refl, refl)
+    (get refl refl
+    (close refl refl
+    (hput refl refl refl
+    (put refl refl (_, refl, refl)
+    (hput refl refl refl
+    (halt refl refl refl))))))
+    (get refl refl
+    (close refl refl
+    (hput refl refl refl
+    (put refl refl (_, refl, refl)
+    (hput refl refl refl
+    (halt refl refl refl)))))))
+    (part
+    (split refl refl (refl, refl, refl)
+    (put refl refl refl
+    (close refl refl
+    (put refl refl refl
+    (halt refl refl refl)))))
+    no-parts)))
 
 pub typed : IsTyped ends_travel
-typed = record { declared = refl; functions = (tt, tt); processes = (run_process-typed, tt) }
+typed =
+    record {
+      declared = refl;
+      functions = (tt, tt);
+      processes = (run_process-typed, tt);
+    }

@@ -13,10 +13,29 @@ abbrev w : World
 w = world_of fills_a_text
 
 fill_function-typed : FunctionIsTyped w fill_function
-fill_function-typed = (((_, refl, refl, (s.Char, refl)), ((_, refl, refl, (s.Char, refl, refl, (_, refl, ([], refl, refl, ((refl, (_, refl, refl), refl), tt), tt)))), tt)), refl)
+fill_function-typed = (
+  (
+    (_, refl, refl, (s.Char, refl)),
+    (
+      (_, refl, refl, (s.Char, refl, refl, (_, refl, ([], refl, refl, ((refl, (_, refl, refl), refl), tt), tt)))),
+      tt,
+    ),
+  ),
+  refl,
+)
 
 run_process-typed : ProcessIsTyped w run_process
-run_process-typed = process w run_process refl refl refl refl refl (hput refl refl refl (put refl refl (_, refl, ([], refl, refl, (refl, tt), tt)) (hput refl refl refl (halt refl refl refl))))
+run_process-typed =
+    process w run_process refl refl refl refl refl
+    (hput refl refl refl
+    (put refl refl (_, refl, ([], refl, refl, (refl, tt), tt))
+    (hput refl refl refl
+    (halt refl refl refl))))
 
 pub typed : IsTyped fills_a_text
-typed = record { declared = refl; functions = (fill_function-typed, (tt, tt)); processes = (tt, (run_process-typed, tt)) }
+typed =
+    record {
+      declared = refl;
+      functions = (fill_function-typed, (tt, tt));
+      processes = (tt, (run_process-typed, tt));
+    }

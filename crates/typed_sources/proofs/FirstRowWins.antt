@@ -12,10 +12,26 @@ abbrev w : World
 w = world_of first_row_wins
 
 name_function-typed : FunctionIsTyped w name_function
-name_function-typed = (((_, refl, refl, refl), ((_, refl, refl, refl), tt)), refl)
+name_function-typed = (
+  (
+    (_, refl, refl, refl),
+    (
+      (_, refl, refl, refl),
+      tt,
+    ),
+  ),
+  refl,
+)
 
 run_process-typed : ProcessIsTyped w run_process
-run_process-typed = process w run_process refl refl refl refl refl (halt-alone refl)
+run_process-typed =
+    process w run_process refl refl refl refl refl
+    (halt-alone refl)
 
 pub typed : IsTyped first_row_wins
-typed = record { declared = refl; functions = (tt, (name_function-typed, (tt, tt))); processes = (tt, (tt, (run_process-typed, tt))) }
+typed =
+    record {
+      declared = refl;
+      functions = (tt, (name_function-typed, (tt, tt)));
+      processes = (tt, (tt, (run_process-typed, tt)));
+    }

@@ -15,13 +15,53 @@ abbrev w : World
 w = world_of gives_a_box
 
 first_function-typed : FunctionIsTyped w first_function
-first_function-typed = (((_, refl, refl, (_, _, _, refl, (((s.Variable nowhere (codes "a")) ∷ []), refl, refl, tt, tt))), ((_, refl, refl, (_, _, _, refl, (((s.Variable nowhere (codes "a")) ∷ []), refl, refl, ((_, refl, refl), tt), tt))), tt)), refl)
+first_function-typed = (
+  (
+    (_, refl, refl, (_, _, _, refl, ((s.Variable nowhere (codes "a") ∷ []), refl, refl, tt, tt))),
+    (
+      (_, refl, refl, (_, _, _, refl, ((s.Variable nowhere (codes "a") ∷ []), refl, refl, ((_, refl, refl), tt), tt))),
+      tt,
+    ),
+  ),
+  refl,
+)
 
 either_function-typed : FunctionIsTyped w either_function
-either_function-typed = (((_, refl, refl, (_, refl, refl)), ((_, refl, refl, (_, refl, refl)), tt)), refl)
+either_function-typed = (
+  (
+    (_, refl, refl, (_, refl, refl)),
+    (
+      (_, refl, refl, (_, refl, refl)),
+      tt,
+    ),
+  ),
+  refl,
+)
 
 run_process-typed : ProcessIsTyped w run_process
-run_process-typed = process w run_process refl refl refl refl refl (plug refl refl refl (part (hput refl refl refl (put refl refl (_, refl, ((letters ∷ []), refl, refl, ((letters, refl, refl, (refl, tt)), tt), tt)) (halt refl refl refl))) (part (hcase refl refl (refl, refl) (row refl (get refl refl (close refl refl (hput refl refl refl (put refl refl (_, refl, ((letters ∷ []), refl, refl, ((_, refl, refl), (refl, tt)), tt)) (hput refl refl refl (halt refl refl refl)))))) no-rows)) no-parts)))
+run_process-typed =
+    process w run_process refl refl refl refl refl
+    (plug refl refl refl
+    (part
+    (hput refl refl refl
+    (put refl refl (_, refl, ((letters ∷ []), refl, refl, ((letters, refl, refl, (refl, tt)), tt), tt))
+    (halt refl refl refl)))
+    (part
+    (hcase refl refl (refl, refl)
+    (row refl
+    (get refl refl
+    (close refl refl
+    (hput refl refl refl
+    (put refl refl (_, refl, ((letters ∷ []), refl, refl, ((_, refl, refl), (refl, tt)), tt))
+    (hput refl refl refl
+    (halt refl refl refl))))))
+    no-rows))
+    no-parts)))
 
 pub typed : IsTyped gives_a_box
-typed = record { declared = refl; functions = (tt, (first_function-typed, (either_function-typed, (tt, (tt, tt))))); processes = (tt, (tt, (tt, (tt, (run_process-typed, tt))))) }
+typed =
+    record {
+      declared = refl;
+      functions = (tt, (first_function-typed, (either_function-typed, (tt, (tt, tt)))));
+      processes = (tt, (tt, (tt, (tt, (run_process-typed, tt)))));
+    }

@@ -11,7 +11,14 @@ abbrev w : World
 w = world_of halts_at_once
 
 run_process-typed : ProcessIsTyped w run_process
-run_process-typed = process w run_process refl refl refl refl refl (halt-alone refl)
+run_process-typed =
+    process w run_process refl refl refl refl refl
+    (halt-alone refl)
 
 pub typed : IsTyped halts_at_once
-typed = record { declared = refl; functions = (tt, tt); processes = (run_process-typed, tt) }
+typed =
+    record {
+      declared = refl;
+      functions = (tt, tt);
+      processes = (run_process-typed, tt);
+    }

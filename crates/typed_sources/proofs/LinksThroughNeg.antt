@@ -11,7 +11,31 @@ abbrev w : World
 w = world_of links_through_neg
 
 run_process-typed : ProcessIsTyped w run_process
-run_process-typed = process w run_process refl refl refl refl refl (plug refl refl refl (part (join refl refl refl (refl, refl) refl) (part (join refl refl refl (refl, refl) refl) (part (get refl refl (close refl refl (hput refl refl refl (put refl refl (_, refl, refl) (hput refl refl refl (halt refl refl refl)))))) (part (join refl refl refl (refl, refl) refl) (part (put refl refl refl (halt refl refl refl)) no-parts))))))
+run_process-typed =
+    process w run_process refl refl refl refl refl
+    (plug refl refl refl
+    (part
+    (join refl refl refl (refl, refl) refl)
+    (part
+    (join refl refl refl (refl, refl) refl)
+    (part
+    (get refl refl
+    (close refl refl
+    (hput refl refl refl
+    (put refl refl (_, refl, refl)
+    (hput refl refl refl
+    (halt refl refl refl))))))
+    (part
+    (join refl refl refl (refl, refl) refl)
+    (part
+    (put refl refl refl
+    (halt refl refl refl))
+    no-parts))))))
 
 pub typed : IsTyped links_through_neg
-typed = record { declared = refl; functions = (tt, tt); processes = (run_process-typed, tt) }
+typed =
+    record {
+      declared = refl;
+      functions = (tt, tt);
+      processes = (run_process-typed, tt);
+    }

@@ -11,7 +11,17 @@ abbrev w : World
 w = world_of prints_hello
 
 run_process-typed : ProcessIsTyped w run_process
-run_process-typed = process w run_process refl refl refl refl refl (hput refl refl refl (put refl refl refl (hput refl refl refl (halt refl refl refl))))
+run_process-typed =
+    process w run_process refl refl refl refl refl
+    (hput refl refl refl
+    (put refl refl refl
+    (hput refl refl refl
+    (halt refl refl refl))))
 
 pub typed : IsTyped prints_hello
-typed = record { declared = refl; functions = (tt, tt); processes = (run_process-typed, tt) }
+typed =
+    record {
+      declared = refl;
+      functions = (tt, tt);
+      processes = (run_process-typed, tt);
+    }

@@ -11,7 +11,49 @@ abbrev w : World
 w = world_of races_a_door
 
 run_process-typed : ProcessIsTyped w run_process
-run_process-typed = process w run_process refl refl refl refl refl (plug refl refl refl (part (hput refl refl refl (halt refl refl refl)) (part (fork [] refl refl (refl, refl, refl) (halt refl refl refl) (halt refl refl refl)) (part (race refl refl (branch refl (hcase refl refl (refl, refl) (row refl (close refl refl (split refl refl (refl, refl, refl) (close refl refl (close refl refl (hput refl refl refl (put refl refl refl (hput refl refl refl (halt refl refl refl)))))))) no-rows)) (branch refl (split refl refl (refl, refl, refl) (close refl refl (close refl refl (hput refl refl refl (put refl refl refl (hput refl refl refl (hcase refl refl (refl, refl) (row refl (close refl refl (halt refl refl refl)) no-rows)))))))) no-branches))) no-parts))))
+run_process-typed =
+    process w run_process refl refl refl refl refl
+    (plug refl refl refl
+    (part
+    (hput refl refl refl
+    (halt refl refl refl))
+    (part
+    (fork [] refl refl (refl, refl, refl)
+    (halt refl refl refl)
+    (halt refl refl refl))
+    (part
+    (race refl refl
+    (branch refl
+    (hcase refl refl (refl, refl)
+    (row refl
+    (close refl refl
+    (split refl refl (refl, refl, refl)
+    (close refl refl
+    (close refl refl
+    (hput refl refl refl
+    (put refl refl refl
+    (hput refl refl refl
+    (halt refl refl refl))))))))
+    no-rows))
+    (branch refl
+    (split refl refl (refl, refl, refl)
+    (close refl refl
+    (close refl refl
+    (hput refl refl refl
+    (put refl refl refl
+    (hput refl refl refl
+    (hcase refl refl (refl, refl)
+    (row refl
+    (close refl refl
+    (halt refl refl refl))
+    no-rows))))))))
+    no-branches)))
+    no-parts))))
 
 pub typed : IsTyped races_a_door
-typed = record { declared = refl; functions = (tt, (tt, tt)); processes = (tt, (run_process-typed, tt)) }
+typed =
+    record {
+      declared = refl;
+      functions = (tt, (tt, tt));
+      processes = (tt, (run_process-typed, tt));
+    }

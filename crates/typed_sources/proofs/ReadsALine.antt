@@ -11,7 +11,17 @@ abbrev w : World
 w = world_of reads_a_line
 
 run_process-typed : ProcessIsTyped w run_process
-run_process-typed = process w run_process refl refl refl refl refl (hput refl refl refl (get refl refl (hput refl refl refl (halt refl refl refl))))
+run_process-typed =
+    process w run_process refl refl refl refl refl
+    (hput refl refl refl
+    (get refl refl
+    (hput refl refl refl
+    (halt refl refl refl))))
 
 pub typed : IsTyped reads_a_line
-typed = record { declared = refl; functions = (tt, tt); processes = (run_process-typed, tt) }
+typed =
+    record {
+      declared = refl;
+      functions = (tt, tt);
+      processes = (run_process-typed, tt);
+    }

@@ -11,7 +11,21 @@ abbrev w : World
 w = world_of shares_two_channels
 
 run_process-typed : ProcessIsTyped w run_process
-run_process-typed = process w run_process refl refl refl refl refl (plug refl refl refl (part (close refl refl (halt refl refl refl)) (part (close refl refl (halt refl refl refl)) no-parts)))
+run_process-typed =
+    process w run_process refl refl refl refl refl
+    (plug refl refl refl
+    (part
+    (close refl refl
+    (halt refl refl refl))
+    (part
+    (close refl refl
+    (halt refl refl refl))
+    no-parts)))
 
 pub typed : IsTyped shares_two_channels
-typed = record { declared = refl; functions = (tt, tt); processes = (run_process-typed, tt) }
+typed =
+    record {
+      declared = refl;
+      functions = (tt, tt);
+      processes = (run_process-typed, tt);
+    }

@@ -9,7 +9,21 @@ use Rattle.campl_tree.specs.Plain.Process as b
 use Rattle.campl_tree.specs.Plain.Decl as d
 
 abbrev pub run_process : d.ProcessDecl
-run_process = record { place = (place 1 1); name = (ident 1 6 (codes "run")); parameters = []; inputs = []; outputs = []; row = record { place = (place 2 5); variables = []; inputs = []; outputs = []; body = (b.Halt (place 2 13) None) } }
+run_process =
+    record {
+      place = place 1 1;
+      name = ident 1 6 (codes "run");
+      parameters = [];
+      inputs = [];
+      outputs = [];
+      row = record {
+        place = place 2 5;
+        variables = [];
+        inputs = [];
+        outputs = [];
+        body = b.Halt (place 2 13) None;
+      };
+    }
 
 abbrev pub halts_at_once : Program
 halts_at_once = d.Process run_process ∷ []
