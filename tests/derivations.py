@@ -41,7 +41,7 @@ LASTS += ["match", "when", "no-cases", "join", "call", "process"]
 WORDS_OF_TREES = [
     ("Rattle.std.specs.Prelude", ["[]", "◌∷◌", "Some", "None", "pos", "codes", "true", "false"]),
     (f"{TREE}.Plain.Decl", ["Program"]),
-    (f"{SOURCES}.specs.Trees", ["place", "ident", "header", "link", "row", "◌⨾◌"]),
+    (f"{SOURCES}.specs.Trees", ["place", "ident", "header", "link", "function_row", "◌⨾◌"]),
 ]
 WORDS_OF_PROOFS = [
     ("Rattle.std.proofs.Common", ["refl", "[]", "◌∷◌", "codes"]),
@@ -107,7 +107,7 @@ def declaration_term(node):
             return "ProtocolDecl", fields
         case t.Function(_, _, parameters, result, rows):
             types = plain_list([seq_type(u) for u in parameters])
-            told = [f"row {place(r.place)} {patterns(r.patterns)} {expr(r.value)}" for r in rows]
+            told = [f"function_row {place(r.place)} {patterns(r.patterns)} {expr(r.value)}" for r in rows]
             return "FunctionDecl", record(place=at, name=name, parameters=types, result=seq_type(result), rows=plain_list(told, "\n"))
         case t.Process(_, _, parameters, inputs, outputs, row):
             variables = plain_list([binder(v) for v in row.variables])

@@ -63,7 +63,7 @@
 --                 halt bank
 use Rattle.std.specs.Prelude.{[], ◌∷◌, Some, pos, codes}
 use Rattle.campl_tree.specs.Plain.Decl.{Program}
-use Rattle.typed_sources.specs.Trees.{place, ident, header, link, row, ◌⨾◌}
+use Rattle.typed_sources.specs.Trees.{place, ident, header, link, function_row, ◌⨾◌}
 use Rattle.campl_tree.specs.declared.process.Binder.TheVariants as binder
 use Rattle.campl_tree.specs.declared.expr.Comparison.TheVariants as compare
 use Rattle.campl_tree.specs.declared.expr.Arithmetic.TheVariants as calculate
@@ -94,8 +94,8 @@ number_function =
       name = ident 5 5 (codes "number");
       parameters = s.Int ∷ s.List s.Char ∷ [];
       result = s.Int;
-      rows = row (place 6 5) (p.pattern_then (p.Variable (place 6 5) (codes "n")) (p.pattern_then (p.List (place 6 8) p.no_patterns) p.no_patterns)) (e.Variable (place 6 14) (codes "n"))
-          ∷ row (place 7 5) (p.pattern_then (p.Variable (place 7 5) (codes "n")) (p.pattern_then (p.Cons (place 7 8) (p.Variable (place 7 8) (codes "d")) (p.Variable (place 7 12) (codes "ds"))) p.no_patterns)) (e.Call (place 7 18) (codes "number") (e.expr_then (e.Calculate (place 7 25) (e.Calculate (place 7 25) (e.Calculate (place 7 25) (e.Number (place 7 25) (pos 10)) calculate.Multiply (e.Variable (place 7 30) (codes "n"))) calculate.Add (e.CodeOf (place 7 34) (e.Variable (place 7 39) (codes "d")))) calculate.Subtract (e.Number (place 7 44) (pos 48))) (e.expr_then (e.Variable (place 7 48) (codes "ds")) e.no_exprs)))
+      rows = function_row (place 6 5) (p.pattern_then (p.Variable (place 6 5) (codes "n")) (p.pattern_then (p.List (place 6 8) p.no_patterns) p.no_patterns)) (e.Variable (place 6 14) (codes "n"))
+          ∷ function_row (place 7 5) (p.pattern_then (p.Variable (place 7 5) (codes "n")) (p.pattern_then (p.Cons (place 7 8) (p.Variable (place 7 8) (codes "d")) (p.Variable (place 7 12) (codes "ds"))) p.no_patterns)) (e.Call (place 7 18) (codes "number") (e.expr_then (e.Calculate (place 7 25) (e.Calculate (place 7 25) (e.Calculate (place 7 25) (e.Number (place 7 25) (pos 10)) calculate.Multiply (e.Variable (place 7 30) (codes "n"))) calculate.Add (e.CodeOf (place 7 34) (e.Variable (place 7 39) (codes "d")))) calculate.Subtract (e.Number (place 7 44) (pos 48))) (e.expr_then (e.Variable (place 7 48) (codes "ds")) e.no_exprs)))
           ∷ [];
     }
 
@@ -106,7 +106,7 @@ show_function =
       name = ident 8 5 (codes "show");
       parameters = s.Int ∷ [];
       result = s.List s.Char;
-      rows = row (place 9 5) (p.pattern_then (p.Variable (place 9 5) (codes "n")) p.no_patterns) (e.Case (place 9 10) (e.Compare (place 9 15) (e.Variable (place 9 15) (codes "n")) compare.Less (e.Number (place 9 19) (pos 10)))
+      rows = function_row (place 9 5) (p.pattern_then (p.Variable (place 9 5) (codes "n")) p.no_patterns) (e.Case (place 9 10) (e.Compare (place 9 15) (e.Variable (place 9 15) (codes "n")) compare.Less (e.Number (place 9 19) (pos 10)))
           (e.expr_row_then (p.True (place 10 9)) (e.List (place 10 17) (e.expr_then (e.CharOf (place 10 18) (e.Calculate (place 10 23) (e.Number (place 10 23) (pos 48)) calculate.Add (e.Variable (place 10 28) (codes "n")))) e.no_exprs))
           (e.expr_row_then (p.False (place 11 9)) (e.Append (place 11 18) (e.Call (place 11 18) (codes "show") (e.expr_then (e.Calculate (place 11 23) (e.Variable (place 11 23) (codes "n")) calculate.Divide (e.Number (place 11 29) (pos 10))) e.no_exprs)) (e.List (place 11 36) (e.expr_then (e.CharOf (place 11 37) (e.Calculate (place 11 42) (e.Number (place 11 42) (pos 48)) calculate.Add (e.Calculate (place 11 47) (e.Variable (place 11 47) (codes "n")) calculate.Remainder (e.Number (place 11 53) (pos 10))))) e.no_exprs)))
           e.no_expr_rows)))

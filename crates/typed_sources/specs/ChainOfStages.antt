@@ -51,7 +51,7 @@
 --             b, console => -> sum(0 | b, console => )
 use Rattle.std.specs.Prelude.{[], ◌∷◌, Some, pos, codes, false}
 use Rattle.campl_tree.specs.Plain.Decl.{Program}
-use Rattle.typed_sources.specs.Trees.{place, ident, header, link, row, ◌⨾◌}
+use Rattle.typed_sources.specs.Trees.{place, ident, header, link, function_row, ◌⨾◌}
 use Rattle.campl_tree.specs.declared.process.Binder.TheVariants as binder
 use Rattle.campl_tree.specs.declared.expr.Comparison.TheVariants as compare
 use Rattle.campl_tree.specs.declared.expr.Arithmetic.TheVariants as calculate
@@ -81,7 +81,7 @@ show_function =
       name = ident 4 5 (codes "show");
       parameters = s.Int ∷ [];
       result = s.List s.Char;
-      rows = row (place 5 5) (p.pattern_then (p.Variable (place 5 5) (codes "n")) p.no_patterns) (e.Case (place 5 10) (e.Compare (place 5 15) (e.Variable (place 5 15) (codes "n")) compare.Less (e.Number (place 5 19) (pos 10)))
+      rows = function_row (place 5 5) (p.pattern_then (p.Variable (place 5 5) (codes "n")) p.no_patterns) (e.Case (place 5 10) (e.Compare (place 5 15) (e.Variable (place 5 15) (codes "n")) compare.Less (e.Number (place 5 19) (pos 10)))
           (e.expr_row_then (p.True (place 6 9)) (e.List (place 6 17) (e.expr_then (e.CharOf (place 6 18) (e.Calculate (place 6 23) (e.Number (place 6 23) (pos 48)) calculate.Add (e.Variable (place 6 28) (codes "n")))) e.no_exprs))
           (e.expr_row_then (p.False (place 7 9)) (e.Append (place 7 18) (e.Call (place 7 18) (codes "show") (e.expr_then (e.Calculate (place 7 23) (e.Variable (place 7 23) (codes "n")) calculate.Divide (e.Number (place 7 29) (pos 10))) e.no_exprs)) (e.List (place 7 36) (e.expr_then (e.CharOf (place 7 37) (e.Calculate (place 7 42) (e.Number (place 7 42) (pos 48)) calculate.Add (e.Calculate (place 7 47) (e.Variable (place 7 47) (codes "n")) calculate.Remainder (e.Number (place 7 53) (pos 10))))) e.no_exprs)))
           e.no_expr_rows)))

@@ -11,7 +11,7 @@
 --             halt console
 use Rattle.std.specs.Prelude.{[], ◌∷◌, Some, pos, codes}
 use Rattle.campl_tree.specs.Plain.Decl.{Program}
-use Rattle.typed_sources.specs.Trees.{place, ident, row, ◌⨾◌}
+use Rattle.typed_sources.specs.Trees.{place, ident, function_row, ◌⨾◌}
 use Rattle.campl_tree.specs.declared.expr.Arithmetic.TheVariants as calculate
 use Rattle.campl_tree.specs.Plain.SeqType as s
 use Rattle.campl_tree.specs.Plain.ChanType as c
@@ -27,8 +27,8 @@ fill_function =
       name = ident 1 5 (codes "fill");
       parameters = s.Int ∷ [];
       result = s.List s.Char;
-      rows = row (place 2 5) (p.pattern_then (p.Number (place 2 5) (pos 0)) p.no_patterns) (e.List (place 2 10) e.no_exprs)
-          ∷ row (place 3 5) (p.pattern_then (p.Variable (place 3 5) (codes "n")) p.no_patterns) (e.Cons (place 3 10) (e.Character (place 3 10) 120) (e.Call (place 3 16) (codes "fill") (e.expr_then (e.Calculate (place 3 21) (e.Variable (place 3 21) (codes "n")) calculate.Subtract (e.Number (place 3 25) (pos 1))) e.no_exprs)))
+      rows = function_row (place 2 5) (p.pattern_then (p.Number (place 2 5) (pos 0)) p.no_patterns) (e.List (place 2 10) e.no_exprs)
+          ∷ function_row (place 3 5) (p.pattern_then (p.Variable (place 3 5) (codes "n")) p.no_patterns) (e.Cons (place 3 10) (e.Character (place 3 10) 120) (e.Call (place 3 16) (codes "fill") (e.expr_then (e.Calculate (place 3 21) (e.Variable (place 3 21) (codes "n")) calculate.Subtract (e.Number (place 3 25) (pos 1))) e.no_exprs)))
           ∷ [];
     }
 

@@ -23,7 +23,7 @@
 --                 halt console
 use Rattle.std.specs.Prelude.{[], ◌∷◌, Some, codes}
 use Rattle.campl_tree.specs.Plain.Decl.{Program}
-use Rattle.typed_sources.specs.Trees.{place, ident, header, link, row, ◌⨾◌}
+use Rattle.typed_sources.specs.Trees.{place, ident, header, link, function_row, ◌⨾◌}
 use Rattle.campl_tree.specs.declared.process.Binder.TheVariants as binder
 use Rattle.campl_tree.specs.Plain.SeqType as s
 use Rattle.campl_tree.specs.Plain.ChanType as c
@@ -50,8 +50,8 @@ first_function =
       name = ident 4 5 (codes "first");
       parameters = s.List (s.Variable (place 4 15) (codes "a")) ∷ [];
       result = s.Named (place 4 21) (codes "Maybe") (s.type_then (s.Variable (place 4 27) (codes "a")) s.no_types);
-      rows = row (place 5 5) (p.pattern_then (p.List (place 5 5) p.no_patterns) p.no_patterns) (e.Constructor (place 5 11) (codes "None") e.no_exprs)
-          ∷ row (place 6 5) (p.pattern_then (p.Cons (place 6 5) (p.Variable (place 6 5) (codes "x")) (p.Wildcard (place 6 9))) p.no_patterns) (e.Constructor (place 6 14) (codes "Just") (e.expr_then (e.Variable (place 6 19) (codes "x")) e.no_exprs))
+      rows = function_row (place 5 5) (p.pattern_then (p.List (place 5 5) p.no_patterns) p.no_patterns) (e.Constructor (place 5 11) (codes "None") e.no_exprs)
+          ∷ function_row (place 6 5) (p.pattern_then (p.Cons (place 6 5) (p.Variable (place 6 5) (codes "x")) (p.Wildcard (place 6 9))) p.no_patterns) (e.Constructor (place 6 14) (codes "Just") (e.expr_then (e.Variable (place 6 19) (codes "x")) e.no_exprs))
           ∷ [];
     }
 
@@ -62,8 +62,8 @@ either_function =
       name = ident 7 5 (codes "either");
       parameters = s.Named (place 7 15) (codes "Maybe") (s.type_then (s.Variable (place 7 21) (codes "a")) s.no_types) ∷ s.Variable (place 7 25) (codes "a") ∷ [];
       result = s.Variable (place 7 30) (codes "a");
-      rows = row (place 8 5) (p.pattern_then (p.Constructor (place 8 5) (codes "None") p.no_patterns) (p.pattern_then (p.Variable (place 8 11) (codes "y")) p.no_patterns)) (e.Variable (place 8 16) (codes "y"))
-          ∷ row (place 9 5) (p.pattern_then (p.Constructor (place 9 5) (codes "Just") (p.pattern_then (p.Variable (place 9 10) (codes "x")) p.no_patterns)) (p.pattern_then (p.Wildcard (place 9 14)) p.no_patterns)) (e.Variable (place 9 19) (codes "x"))
+      rows = function_row (place 8 5) (p.pattern_then (p.Constructor (place 8 5) (codes "None") p.no_patterns) (p.pattern_then (p.Variable (place 8 11) (codes "y")) p.no_patterns)) (e.Variable (place 8 16) (codes "y"))
+          ∷ function_row (place 9 5) (p.pattern_then (p.Constructor (place 9 5) (codes "Just") (p.pattern_then (p.Variable (place 9 10) (codes "x")) p.no_patterns)) (p.pattern_then (p.Wildcard (place 9 14)) p.no_patterns)) (e.Variable (place 9 19) (codes "x"))
           ∷ [];
     }
 

@@ -11,7 +11,7 @@
 --         | => -> halt
 use Rattle.std.specs.Prelude.{[], ◌∷◌, None, codes}
 use Rattle.campl_tree.specs.Plain.Decl.{Program}
-use Rattle.typed_sources.specs.Trees.{place, ident, row}
+use Rattle.typed_sources.specs.Trees.{place, ident, function_row}
 use Rattle.campl_tree.specs.Plain.SeqType as s
 use Rattle.campl_tree.specs.Plain.Pattern as p
 use Rattle.campl_tree.specs.Plain.Expr as e
@@ -37,8 +37,8 @@ name_function =
       name = ident 5 5 (codes "name");
       parameters = s.Named (place 5 13) (codes "Colour") s.no_types ∷ [];
       result = s.List s.Char;
-      rows = row (place 6 5) (p.pattern_then (p.Wildcard (place 6 5)) p.no_patterns) (e.Text (place 6 10) (codes "any"))
-          ∷ row (place 7 5) (p.pattern_then (p.Constructor (place 7 5) (codes "Red") p.no_patterns) p.no_patterns) (e.Text (place 7 12) (codes "red"))
+      rows = function_row (place 6 5) (p.pattern_then (p.Wildcard (place 6 5)) p.no_patterns) (e.Text (place 6 10) (codes "any"))
+          ∷ function_row (place 7 5) (p.pattern_then (p.Constructor (place 7 5) (codes "Red") p.no_patterns) p.no_patterns) (e.Text (place 7 12) (codes "red"))
           ∷ [];
     }
 

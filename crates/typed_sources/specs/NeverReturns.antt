@@ -16,7 +16,7 @@
 --                 halt console
 use Rattle.std.specs.Prelude.{[], ◌∷◌, Some, pos, codes}
 use Rattle.campl_tree.specs.Plain.Decl.{Program}
-use Rattle.typed_sources.specs.Trees.{place, ident, header, link, row, ◌⨾◌}
+use Rattle.typed_sources.specs.Trees.{place, ident, header, link, function_row, ◌⨾◌}
 use Rattle.campl_tree.specs.declared.process.Binder.TheVariants as binder
 use Rattle.campl_tree.specs.declared.expr.Arithmetic.TheVariants as calculate
 use Rattle.campl_tree.specs.Plain.SeqType as s
@@ -33,7 +33,7 @@ loop_function =
       name = ident 1 5 (codes "loop");
       parameters = s.Int ∷ [];
       result = s.Int;
-      rows = row (place 2 5) (p.pattern_then (p.Variable (place 2 5) (codes "n")) p.no_patterns) (e.Call (place 2 10) (codes "loop") (e.expr_then (e.Calculate (place 2 15) (e.Variable (place 2 15) (codes "n")) calculate.Add (e.Number (place 2 19) (pos 1))) e.no_exprs))
+      rows = function_row (place 2 5) (p.pattern_then (p.Variable (place 2 5) (codes "n")) p.no_patterns) (e.Call (place 2 10) (codes "loop") (e.expr_then (e.Calculate (place 2 15) (e.Variable (place 2 15) (codes "n")) calculate.Add (e.Number (place 2 19) (pos 1))) e.no_exprs))
           ∷ [];
     }
 
