@@ -105,6 +105,10 @@ def declaration_term(node):
             told = [line(name=ident(k.name), channel_type=chan_type(k.channel_type), local=ident(k.local)) for k in lines]
             fields = record(place=at, name=name, parameters=idents(parameters), local=ident(local), constructors=plain_list(told, "\n"))
             return "ProtocolDecl", fields
+        case t.Coprotocol(_, local, _, parameters, lines):
+            told = [line(name=ident(k.name), local=ident(k.local), channel_type=chan_type(k.channel_type)) for k in lines]
+            fields = record(place=at, local=ident(local), name=name, parameters=idents(parameters), constructors=plain_list(told, "\n"))
+            return "CoprotocolDecl", fields
         case t.Function(_, _, parameters, result, rows):
             types = plain_list([seq_type(u) for u in parameters])
             told = [f"function_row {place(r.place)} {patterns(r.patterns)} {expr(r.value)}" for r in rows]

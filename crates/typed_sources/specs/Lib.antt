@@ -17,3 +17,5 @@ pub mod RacesTwoTerminals
 pub mod ReadsALine
 pub mod SendsAhead
 pub mod SharesTwoChannels
+pub mod UsesAllCommands
+pub mod UsesAllExpressions

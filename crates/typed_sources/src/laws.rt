@@ -18,6 +18,8 @@ ghost use Rattle.typed_sources.specs.RacesTwoTerminals.{races_two_terminals};
 ghost use Rattle.typed_sources.specs.ReadsALine.{reads_a_line};
 ghost use Rattle.typed_sources.specs.SendsAhead.{sends_ahead};
 ghost use Rattle.typed_sources.specs.SharesTwoChannels.{shares_two_channels};
+ghost use Rattle.typed_sources.specs.UsesAllCommands.{uses_all_commands};
+ghost use Rattle.typed_sources.specs.UsesAllExpressions.{uses_all_expressions};
 
 /// `data/bank.campl` is typed.
 pub fn law_bank()
@@ -107,4 +109,14 @@ pub fn law_sends_ahead()
 /// `data/shares_two_channels.campl` is typed.
 pub fn law_shares_two_channels()
     ensures { IsTyped shares_two_channels }
+{}
+
+/// `data/uses_all_commands.campl` is typed.
+pub fn law_uses_all_commands()
+    ensures { IsTyped uses_all_commands }
+{}
+
+/// `data/uses_all_expressions.campl` is typed.
+pub fn law_uses_all_expressions()
+    ensures { IsTyped uses_all_expressions }
 {}
