@@ -1,10 +1,10 @@
 #!/usr/bin/env python3
 """Writes the trees of accepted sources, and derivations of their typing, for the crate typed_sources:
 
-    derivations.py crates/typed_sources    for each data/NAME.campl its specs/NAME.antt and proofs/NAME.antt,
-                                           and the laws in src/ with their answers
+    derivations.py crates/typed_sources    for each data/NAME.campl its tree in specs/ and its derivation in proofs/, for each
+                                           data/refused/NAME.campl its tree, and the laws in src/ with their answers
 
-The prover judges what is written: a wrong tree, type or derivation is refused.
+The prover judges what is written: a wrong type or derivation is refused. That a source has no derivation is proved by hand.
 """
 
 import pathlib
@@ -32,6 +32,9 @@ MODULES = [
     (f"{TREE}.Plain.Process", "b"),
     (f"{TREE}.Plain.Decl", "d"),
 ]
+
+# the lemmas, in their order
+LEMMAS = ["Within", "Divided", "Actions", "Lasts", "Undone"]
 
 COMMANDS = ["put", "get", "hput", "split", "close", "halt", "halt-alone"]
 LASTS = ["hcase", "row", "no-rows", "fork", "plug", "part", "no-parts", "race", "branch", "no-branches"]
@@ -197,30 +200,43 @@ def write(path, text):
     path.write_text(text, encoding="utf-8")
 
 
-def write_laws(crate, names):
-    uses = "\n".join(f"ghost use {SOURCES}.specs.{camel(name)}.{{{name}}};" for name in names)
-    laws = "\n".join(f"\n/// `data/{name}.campl` is typed.\npub fn law_{name}()\n    ensures {{ IsTyped {name} }}\n{{}}" for name in names)
-    write(
-        crate / "src/laws.rt",
-        f"//! The laws, functions with nothing to do, whose contracts they are.\nghost use {TYPES}.Typed.{{IsTyped}};\n{uses}\n{laws}\n",
-    )
+def law(name, refused):
+    told = f"law_{name}_is_refused" if refused else f"law_{name}"
+    fact = f"IsTyped {name} → ⊥" if refused else f"IsTyped {name}"
+    doc = f"No derivation types `data/refused/{name}.campl`." if refused else f"`data/{name}.campl` is typed."
+    return told, f"/// {doc}\npub fn {told}()\n    ensures {{ {fact} }}\n{{}}"
+
+
+def write_laws(crate, about, names, refused):
+    uses = [f"ghost use {TYPES}.Typed.{{IsTyped}};", *(f"ghost use {SOURCES}.specs.{camel(name)}.{{{name}}};" for name in names)]
+    laws = [law(name, refused)[1] for name in names]
+    file = "refusals" if refused else "laws"
+    write(crate / f"src/{file}.rt", f"//! {about}\n" + "\n".join(uses) + "\n\n" + "\n\n".join(laws) + "\n")
     for name in names:
-        uses = f"use {SOURCES}.proofs.{camel(name)}.{{typed}}\nuse {SOURCES}.proofs.laws.law_{name}.Goals as goal\n"
-        write(crate / f"proofs/laws/law_{name}/Answers.antt", f"{uses}\npub returns : goal.returns\nreturns c = typed\n")
+        own = f"{file}.{law(name, refused)[0]}"
+        fact = "refused" if refused else "typed"
+        uses = f"use {SOURCES}.proofs.{camel(name)}.{{{fact}}}\nuse {SOURCES}.proofs.{own}.Goals as goal\n"
+        write(crate / f"proofs/{own.replace('.', '/')}/Answers.antt", f"{uses}\npub returns : goal.returns\nreturns c = {fact}\n")
+
+
+def read(path):
+    source = path.read_text(encoding="utf-8")
+    return path.stem, source, tree_of(source)
 
 
 def main(words):
     crate = pathlib.Path(words[0])
-    names = words[1:] or sorted(path.stem for path in (crate / "data").glob("*.campl"))
-    for name in names:
-        source = (crate / f"data/{name}.campl").read_text(encoding="utf-8")
-        declarations = tree_of(source)
+    accepted = [read(path) for path in sorted((crate / "data").glob("*.campl"))]
+    refused = [read(path) for path in sorted((crate / "data/refused").glob("*.campl"))]
+    for name, source, declarations in accepted + refused:
         write(crate / f"specs/{camel(name)}.antt", tree_file(name, source, declarations))
+    for name, _, declarations in accepted:
         write(crate / f"proofs/{camel(name)}.antt", proof_file(name, declarations))
-    write_laws(crate, names)
-    write(crate / "specs/Lib.antt", "".join(f"pub mod {x}\n" for x in ["Trees", *map(camel, names)]))
-    lemmas = ["Within", "Divided", "Actions", "Lasts"]
-    write(crate / "proofs/Lib.antt", "".join(f"pub mod {x}\n" for x in [*lemmas, *map(camel, names)]))
+    write_laws(crate, "The laws of accepted sources, functions with nothing to do.", [x[0] for x in accepted], False)
+    write_laws(crate, "The laws of refused sources, functions with nothing to do.", [x[0] for x in refused], True)
+    modules = [camel(x[0]) for x in accepted + refused]
+    write(crate / "specs/Lib.antt", "".join(f"pub mod {x}\n" for x in ["Trees", *modules]))
+    write(crate / "proofs/Lib.antt", "".join(f"pub mod {x}\n" for x in [*LEMMAS, *modules]))
 
 
 if __name__ == "__main__":

@@ -1,5 +1,5 @@
 -- How the headers of a plug divide what is held, by a test that computes.
-use Rattle.std.proofs.Common.{◌≡◌, ◌⊎◌, inl, inr, refl, sym, subst, ℕ, ◌≤◌, Bool, true, false, ◌&&◌, IsTrue, List, [], ◌∷◌, ◌++◌, Option, Some, None, true≢false, nat_eq, nat_le, eqb-true, leb-true}
+use Rattle.std.proofs.Common.{◌≡◌, ◌⊎◌, inl, inr, refl, sym, ℕ, ◌≤◌, Bool, true, false, ◌&&◌, IsTrue, List, [], ◌∷◌, ◌++◌, Option, Some, None, true≢false, nat_eq, nat_le, eqb-true, leb-true}
 use Rattle.campl_tree.specs.declared.place.Ident.{Ident}
 use Rattle.campl_tree.specs.declared.service.Side.TheVariants.{Input, Output}
 use Rattle.campl_tree.specs.Plain.ChanType.{ChanType}
@@ -7,9 +7,8 @@ use Rattle.campl_tree.specs.Plain.Process.{Link, Parts, no_parts, part_then}
 use Rattle.campl_types.specs.Names.{Name, same_name, is_among, are_distinct}
 use Rattle.campl_types.specs.World.{names_of}
 use Rattle.campl_types.specs.Held.{Channel, On, Held}
-use Rattle.campl_types.specs.Headers.{Links, link_names, links_in, times, times_in, times_out, IsUsed, NamesDiffer, Divide}
-use Rattle.campl_types.proofs.Names.{split-names}
-use Rattle.typed_sources.proofs.Within.{Within, not-left, not-right, not-first, not-rest, first-true, rest-true}
+use Rattle.campl_types.specs.Headers.{link_names, links_in, times, times_in, times_out, IsUsed, NamesDiffer, Divide}
+use Rattle.typed_sources.proofs.Within.{Within, passes, all_held, not-left, not-right, not-first, not-rest, first-true, rest-true}
 
 -- whether a name is used as it has to be
 abbrev is_used : Option ChanType → Option Channel → (outputs inputs : ℕ) → Bool
@@ -26,9 +25,8 @@ used-is None (Some (On Output t)) m n i = (eqb-true m 1 (first-true (nat_eq m 1)
 used-is None (Some (On Input t)) m n i = (eqb-true m 0 (first-true (nat_eq m 0) (nat_eq n 1) i), eqb-true n 1 (rest-true (nat_eq m 0) (nat_eq n 1) i))
 used-is None None m n i = (eqb-true m 0 (first-true (nat_eq m 0) (nat_eq n 0) i), eqb-true n 0 (rest-true (nat_eq m 0) (nat_eq n 0) i))
 
-abbrev pub all_used : List Name → Links → Held → Parts → Bool
-all_used [] links held parts = true
-all_used (x ∷ xs) links held parts = is_used (links x) (held x) (times_out x parts) (times_in x parts) && all_used xs links held parts
+abbrev pub all_used : List Link → List Name → Held → Parts → Bool
+all_used links names held parts = all_held (λ x c. is_used (links_in links x) c (times_out x parts) (times_in x parts)) names held
 
 abbrev pub header_names : Parts → List Name
 header_names no_parts = []
@@ -67,42 +65,33 @@ no-outputs x (part_then h body parts) i =
     let later = not-right x (names_of h.inputs) (names_of h.outputs ++ header_names parts) i in
     rw (no-times x h.outputs (not-left x (names_of h.outputs) (header_names parts) later), no-outputs x parts (not-right x (names_of h.outputs) (header_names parts) later)) refl
 
--- A name that is among all, or not
+-- the names of the links, of what is held and of the headers
+abbrev pub all_names : List Link → List Name → Parts → List Name
+all_names links names parts = link_names links ++ (names ++ header_names parts)
 
-passes : (names : List Name) (links : Links) (held : Held) (parts : Parts) (y : Name) → IsTrue (all_used names links held parts)
-    → (is_among y names ≡ false) ⊎ IsTrue (is_used (links y) (held y) (times_out y parts) (times_in y parts))
-passes [] links held parts y t = inl refl
-passes (x ∷ xs) links held parts y t = go (split-names y x) (passes xs links held parts y (rest-true (used x) (all_used xs links held parts) t))
-  where
-    used : Name → Bool
-    used z = is_used (links z) (held z) (times_out z parts) (times_in z parts)
-
-    go : (y ≡ x) ⊎ (same_name y x ≡ false) → (is_among y xs ≡ false) ⊎ IsTrue (used y) → (is_among y (x ∷ xs) ≡ false) ⊎ IsTrue (used y)
-    go (inl i) other = inr (subst (λ z. IsTrue (used z)) (sym i) (first-true (used x) (all_used xs links held parts) t))
-    go (inr i) (inl j) = inl (rw (i, j) refl)
-    go (inr i) (inr j) = inr j
+abbrev pub divides : List Link → List Name → Held → Parts → Bool
+divides links names held parts = all_used links (all_names links names parts) held parts && names_differ parts
 
 -- what is held is divided where each link, each held channel and each name of a header is used as it has to be
-pub divided : (links : List Link) {names : List Name} {held : Held} (parts : Parts) → Within names held
-    → IsTrue (all_used (link_names links ++ (names ++ header_names parts)) (links_in links) held parts && names_differ parts)
-    → Divide (links_in links) held parts
-divided links {names} {held} parts h t = (used, differ parts (rest-true (all_used all (links_in links) held parts) (names_differ parts) t))
+pub divided : (links : List Link) {names : List Name} {held : Held} (parts : Parts) → Within names held → IsTrue (divides links names held parts) → Divide (links_in links) held parts
+divided links {names} {held} parts h t =
+    (λ x. go x (passes (λ y c. is_used (links_in links y) c (times_out y parts) (times_in y parts)) all held x (first-true (all_used links all held parts) (names_differ parts) t)), differ parts (rest-true (all_used links all held parts) (names_differ parts) t))
   where
     all : List Name
-    all = link_names links ++ (names ++ header_names parts)
+    all = all_names links names parts
 
-    unused : (x : Name) → is_among x all ≡ false → IsUsed (links_in links x) (held x) (times_out x parts) (times_in x parts)
+    Used : Name → Type 0
+    Used x = IsUsed (links_in links x) (held x) (times_out x parts) (times_in x parts)
+
+    unused : (x : Name) → is_among x all ≡ false → Used x
     unused x i =
         let later = not-right x (link_names links) (names ++ header_names parts) i in
         let headers = not-right x names (header_names parts) later in
         rw (no-link x links (not-left x (link_names links) (names ++ header_names parts) i), h.elsewhere x (not-left x names (header_names parts) later), no-outputs x parts headers, no-inputs x parts headers) (refl, refl)
 
-    used : (x : Name) → IsUsed (links_in links x) (held x) (times_out x parts) (times_in x parts)
-    used x = go (passes all (links_in links) held parts x (first-true (all_used all (links_in links) held parts) (names_differ parts) t))
-      where
-        go : (is_among x all ≡ false) ⊎ IsTrue (is_used (links_in links x) (held x) (times_out x parts) (times_in x parts)) → IsUsed (links_in links x) (held x) (times_out x parts) (times_in x parts)
-        go (inl i) = unused x i
-        go (inr i) = used-is (links_in links x) (held x) (times_out x parts) (times_in x parts) i
+    go : (x : Name) → (is_among x all ≡ false) ⊎ IsTrue (is_used (links_in links x) (held x) (times_out x parts) (times_in x parts)) → Used x
+    go x (inl i) = unused x i
+    go x (inr i) = used-is (links_in links x) (held x) (times_out x parts) (times_in x parts) i
 
 -- so many parts or branches
 pub between-is : (least n most : ℕ) → IsTrue (nat_le least n && nat_le n most) → (least ≤ n) × (n ≤ most)

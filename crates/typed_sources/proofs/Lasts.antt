@@ -22,7 +22,7 @@ use Rattle.campl_types.specs.Held.{On, Held, with, without, only}
 use Rattle.campl_types.specs.Headers.{Links, links_in, link_names, share, count}
 use Rattle.campl_types.specs.Linear.{RowsAreWellFormed, BranchesAreWellFormed, CasesAreWellFormed, PartsAreWellFormed, ProcessIsTyped, AreNew, HasEachOnce, AreHanded, AreJoined, body_rows, receives_on, most_parts, most_branches, row_variables, row_channels}
 use Rattle.typed_sources.proofs.Within.{Within, more, kept, shared, of-row, alone, closed, all_held, is_gone, is_plain}
-use Rattle.typed_sources.proofs.Divided.{divided, all_used, header_names, names_differ, between-is}
+use Rattle.typed_sources.proofs.Divided.{divided, divides, between-is}
 use Rattle.typed_sources.proofs.Actions.{Flows}
 
 -- hcase
@@ -63,7 +63,7 @@ pub record PartsFlow (w : World) (vs : Vars) (links : Links) (held : Held) (part
 
 pub plug : {w : World} {vs : Vars} {names : List Name} {held : Held} {at : Place} {links : List Link} {parts : Parts}
     → IsTrue (nat_le 2 (count parts) && nat_le (count parts) most_parts) → IsTrue (are_distinct (link_names links))
-    → IsTrue (all_used (link_names links ++ (names ++ header_names parts)) (links_in links) held parts && names_differ parts)
+    → IsTrue (divides links names held parts)
     → PartsFlow w vs (links_in links) held parts → Flows w vs names held (b.Plug at links parts)
 plug {links = links} {parts = parts} many distinct test next =
     record { well-formed = λ h. (between-is 2 (count parts) most_parts many, distinct, divided links parts h test, next.well-formed) }

@@ -2,6 +2,7 @@ pub mod Within
 pub mod Divided
 pub mod Actions
 pub mod Lasts
+pub mod Undone
 pub mod Bank
 pub mod ChainOfStages
 pub mod EndsTravel
@@ -11,6 +12,7 @@ pub mod FirstOfTexts
 pub mod FirstRowWins
 pub mod GivesABox
 pub mod HaltsAtOnce
+pub mod LeavesAPartApart
 pub mod LinksBehindASend
 pub mod LinksThroughNeg
 pub mod NeverReturns
@@ -22,3 +24,9 @@ pub mod SendsAhead
 pub mod SharesTwoChannels
 pub mod UsesAllCommands
 pub mod UsesAllExpressions
+pub mod FirstOfANumber
+pub mod HaltsAClosedChannel
+pub mod LeavesAChannel
+pub mod MissesAColour
+pub mod PutsAtAGet
+pub mod SizesNothing

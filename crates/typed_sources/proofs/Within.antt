@@ -1,6 +1,7 @@
 -- What is held, by the names outside of which nothing is. The facts for all names that end a derivation
 -- follow from a list of names and a test that computes.
 use Rattle.std.proofs.Common.{◌≡◌, ◌∙◌, ◌⊎◌, inl, inr, refl, sym, subst, Bool, true, false, ◌&&◌, ◌||◌, IsTrue, if◌then◌else◌, List, [], ◌∷◌, ◌++◌, Option, Some, None, true≢false}
+use Rattle.std.proofs.lemmas.Option.{none-some}
 use Rattle.campl_tree.specs.declared.place.Ident.{Ident}
 use Rattle.campl_tree.specs.declared.service.Side.{Side}
 use Rattle.campl_tree.specs.declared.service.Side.TheVariants.{Input, Output}
@@ -114,7 +115,7 @@ rest-true true q i = i
 rest-true false q i = absurd (true≢false (sym i))
 
 -- a name among the tested ones passes the test
-passes : (test : Name → Option Channel → Bool) (names : List Name) (held : Held) (y : Name) → IsTrue (all_held test names held) → (is_among y names ≡ false) ⊎ IsTrue (test y (held y))
+pub passes : (test : Name → Option Channel → Bool) (names : List Name) (held : Held) (y : Name) → IsTrue (all_held test names held) → (is_among y names ≡ false) ⊎ IsTrue (test y (held y))
 passes test [] held y t = inl refl
 passes test (x ∷ xs) held y t =
     go (split-names y x) (passes test xs held y (rest-true (test x (held x)) (all_held test xs held) t))
@@ -144,12 +145,6 @@ alone {names} left {held} h t y i = go (passes (is_gone left) names held y t)
 pub closed : {names : List Name} {held : Held} → Within names held → IsTrue (all_held is_plain names held) → HasNoVariables held
 closed {names} {held} h test x s t i = go (passes is_plain names held x test)
   where
-    Plain : Option Channel → Type 0
-    Plain c = IsTrue (is_plain x c)
-
-    some : {A : Type 0} → None ≡ Some (On s t) → A
-    some j = absurd (true≢false (sym (cc (j))))
-
     go : (is_among x names ≡ false) ⊎ IsTrue (is_plain x (held x)) → IsTrue (is_closed t)
-    go (inl j) = some (sym (h.elsewhere x j) ∙ i)
+    go (inl j) = absurd (none-some (On s t) (sym (h.elsewhere x j) ∙ i))
     go (inr j) = subst (λ c. IsTrue (is_plain x c)) i j

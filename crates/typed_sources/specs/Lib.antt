@@ -8,6 +8,7 @@ pub mod FirstOfTexts
 pub mod FirstRowWins
 pub mod GivesABox
 pub mod HaltsAtOnce
+pub mod LeavesAPartApart
 pub mod LinksBehindASend
 pub mod LinksThroughNeg
 pub mod NeverReturns
@@ -19,3 +20,9 @@ pub mod SendsAhead
 pub mod SharesTwoChannels
 pub mod UsesAllCommands
 pub mod UsesAllExpressions
+pub mod FirstOfANumber
+pub mod HaltsAClosedChannel
+pub mod LeavesAChannel
+pub mod MissesAColour
+pub mod PutsAtAGet
+pub mod SizesNothing

@@ -1,4 +1,4 @@
-//! The laws, functions with nothing to do, whose contracts they are.
+//! The laws of accepted sources, functions with nothing to do.
 ghost use Rattle.campl_types.specs.Typed.{IsTyped};
 ghost use Rattle.typed_sources.specs.Bank.{bank};
 ghost use Rattle.typed_sources.specs.ChainOfStages.{chain_of_stages};
@@ -9,6 +9,7 @@ ghost use Rattle.typed_sources.specs.FirstOfTexts.{first_of_texts};
 ghost use Rattle.typed_sources.specs.FirstRowWins.{first_row_wins};
 ghost use Rattle.typed_sources.specs.GivesABox.{gives_a_box};
 ghost use Rattle.typed_sources.specs.HaltsAtOnce.{halts_at_once};
+ghost use Rattle.typed_sources.specs.LeavesAPartApart.{leaves_a_part_apart};
 ghost use Rattle.typed_sources.specs.LinksBehindASend.{links_behind_a_send};
 ghost use Rattle.typed_sources.specs.LinksThroughNeg.{links_through_neg};
 ghost use Rattle.typed_sources.specs.NeverReturns.{never_returns};
@@ -64,6 +65,11 @@ pub fn law_gives_a_box()
 /// `data/halts_at_once.campl` is typed.
 pub fn law_halts_at_once()
     ensures { IsTyped halts_at_once }
+{}
+
+/// `data/leaves_a_part_apart.campl` is typed.
+pub fn law_leaves_a_part_apart()
+    ensures { IsTyped leaves_a_part_apart }
 {}
 
 /// `data/links_behind_a_send.campl` is typed.
