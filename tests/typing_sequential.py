@@ -12,6 +12,18 @@ from antt_trees import plain_list, text
 INT, CHAR, BOOL = t.Basic("Int"), t.Basic("Char"), t.Basic("Bool")
 LETTERS = t.ListType(CHAR)
 
+LITERALS = {t.Number: INT, t.Character: CHAR, t.Text: LETTERS, t.Truth: BOOL}
+
+# the type of what is computed, and that of what it is computed from
+OPERATIONS = {
+    t.Or: (BOOL, BOOL),
+    t.And: (BOOL, BOOL),
+    t.Calculate: (INT, INT),
+    t.Negate: (INT, INT),
+    t.CodeOf: (INT, CHAR),
+    t.CharOf: (CHAR, INT),
+}
+
 
 class Refused(Exception):
     """The source has no derivation, as far as this can tell."""
@@ -177,15 +189,11 @@ class Typing:
         return self.find(node) if wanted is None else (wanted, self.check(node, wanted))
 
     def judge(self, node, wanted):
+        if type(node) in LITERALS:
+            return LITERALS[type(node)], "refl"
+        if type(node) in OPERATIONS:
+            return self.operation(node)
         match node:
-            case t.Number():
-                return INT, "refl"
-            case t.Character():
-                return CHAR, "refl"
-            case t.Text():
-                return LETTERS, "refl"
-            case t.Truth():
-                return BOOL, "refl"
             case t.Variable(_, name):
                 return self.variables[name], "(_, refl, refl)"
             case t.List(_, []):
@@ -200,16 +208,6 @@ class Typing:
             case t.Compare(_, left, _, right):
                 kind, term = self.find(left)
                 return BOOL, f"({shown(kind)}, tt, refl, {term}, {self.check(right, kind)})"
-            case t.Or(_, left, right) | t.And(_, left, right):
-                return BOOL, f"(refl, {self.check(left, BOOL)}, {self.check(right, BOOL)})"
-            case t.Calculate(_, left, _, right):
-                return INT, f"(refl, {self.check(left, INT)}, {self.check(right, INT)})"
-            case t.Negate(_, value):
-                return INT, f"(refl, {self.check(value, INT)})"
-            case t.CodeOf(_, value):
-                return INT, f"(refl, {self.check(value, CHAR)})"
-            case t.CharOf(_, value):
-                return CHAR, f"(refl, {self.check(value, INT)})"
             case t.FunctionCall(_, name, arguments):
                 function = self.world.functions[name]
                 kind, term = self.called(function.parameters, function.result, arguments, wanted, once_in(function))
@@ -221,6 +219,11 @@ class Typing:
                 kind, term = self.called(constructor.parts, whole, parts, wanted, names)
                 return kind, f"(_, _, _, refl, {term})"
         raise ValueError(node)
+
+    def operation(self, node):
+        result, operand = OPERATIONS[type(node)]
+        parts = [part for part in node[1:] if isinstance(part, tuple)]
+        return result, f"(refl, {', '.join(self.check(part, operand) for part in parts)})"
 
     def joined(self, node, wanted):
         """A list or pair, whose parts are judged in the same way."""

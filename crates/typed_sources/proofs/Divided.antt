@@ -18,20 +18,26 @@ is_used None (Some (On Output t)) outputs inputs = nat_eq outputs 1 && nat_eq in
 is_used None (Some (On Input t)) outputs inputs = nat_eq outputs 0 && nat_eq inputs 1
 is_used None None outputs inputs = nat_eq outputs 0 && nat_eq inputs 0
 
-used-is : (link : Option ChanType) (held : Option Channel) (outputs inputs : ℕ) → IsTrue (is_used link held outputs inputs) → IsUsed link held outputs inputs
-used-is (Some t) None m n i = (eqb-true m 1 (first-true (nat_eq m 1) (nat_eq n 1) i), eqb-true n 1 (rest-true (nat_eq m 1) (nat_eq n 1) i))
-used-is (Some t) (Some c) m n i = absurd (true≢false (sym i))
-used-is None (Some (On Output t)) m n i = (eqb-true m 1 (first-true (nat_eq m 1) (nat_eq n 0) i), eqb-true n 0 (rest-true (nat_eq m 1) (nat_eq n 0) i))
-used-is None (Some (On Input t)) m n i = (eqb-true m 0 (first-true (nat_eq m 0) (nat_eq n 1) i), eqb-true n 1 (rest-true (nat_eq m 0) (nat_eq n 1) i))
-used-is None None m n i = (eqb-true m 0 (first-true (nat_eq m 0) (nat_eq n 0) i), eqb-true n 0 (rest-true (nat_eq m 0) (nat_eq n 0) i))
+both-are : (m n a b : ℕ) → IsTrue (nat_eq m a && nat_eq n b) → (m ≡ a) × (n ≡ b)
+both-are m n a b i = (eqb-true m a (first-true (nat_eq m a) (nat_eq n b) i), eqb-true n b (rest-true (nat_eq m a) (nat_eq n b) i))
 
+used-is : (link : Option ChanType) (held : Option Channel) (outputs inputs : ℕ) → IsTrue (is_used link held outputs inputs) → IsUsed link held outputs inputs
+used-is (Some t) None m n i = both-are m n 1 1 i
+used-is (Some t) (Some c) m n i = absurd (true≢false (sym i))
+used-is None (Some (On Output t)) m n i = both-are m n 1 0 i
+used-is None (Some (On Input t)) m n i = both-are m n 0 1 i
+used-is None None m n i = both-are m n 0 0 i
+
+-- whether each of these names is
 abbrev pub all_used : List Link → List Name → Held → Parts → Bool
 all_used links names held parts = all_held (λ x c. is_used (links_in links x) c (times_out x parts) (times_in x parts)) names held
 
+-- the names of all headers
 abbrev pub header_names : Parts → List Name
 header_names no_parts = []
 header_names (part_then h body parts) = names_of h.inputs ++ (names_of h.outputs ++ header_names parts)
 
+-- whether no header has a name twice
 abbrev pub names_differ : Parts → Bool
 names_differ no_parts = true
 names_differ (part_then h body parts) = are_distinct (names_of h.inputs ++ names_of h.outputs) && names_differ parts
@@ -69,16 +75,23 @@ no-outputs x (part_then h body parts) i =
 abbrev pub all_names : List Link → List Name → Parts → List Name
 all_names links names parts = link_names links ++ (names ++ header_names parts)
 
+-- the test of a plug
 abbrev pub divides : List Link → List Name → Held → Parts → Bool
 divides links names held parts = all_used links (all_names links names parts) held parts && names_differ parts
 
 -- what is held is divided where each link, each held channel and each name of a header is used as it has to be
 pub divided : (links : List Link) {names : List Name} {held : Held} (parts : Parts) → Within names held → IsTrue (divides links names held parts) → Divide (links_in links) held parts
 divided links {names} {held} parts h t =
-    (λ x. go x (passes (λ y c. is_used (links_in links y) c (times_out y parts) (times_in y parts)) all held x (first-true (all_used links all held parts) (names_differ parts) t)), differ parts (rest-true (all_used links all held parts) (names_differ parts) t))
+    (λ x. go x (passes test all held x (first-true used (names_differ parts) t)), differ parts (rest-true used (names_differ parts) t))
   where
     all : List Name
     all = all_names links names parts
+
+    used : Bool
+    used = all_used links all held parts
+
+    test : Name → Option Channel → Bool
+    test x c = is_used (links_in links x) c (times_out x parts) (times_in x parts)
 
     Used : Name → Type 0
     Used x = IsUsed (links_in links x) (held x) (times_out x parts) (times_in x parts)
@@ -87,9 +100,11 @@ divided links {names} {held} parts h t =
     unused x i =
         let later = not-right x (link_names links) (names ++ header_names parts) i in
         let headers = not-right x names (header_names parts) later in
-        rw (no-link x links (not-left x (link_names links) (names ++ header_names parts) i), h.elsewhere x (not-left x names (header_names parts) later), no-outputs x parts headers, no-inputs x parts headers) (refl, refl)
+        let link = no-link x links (not-left x (link_names links) (names ++ header_names parts) i) in
+        let free = h.elsewhere x (not-left x names (header_names parts) later) in
+        rw (link, free, no-outputs x parts headers, no-inputs x parts headers) (refl, refl)
 
-    go : (x : Name) → (is_among x all ≡ false) ⊎ IsTrue (is_used (links_in links x) (held x) (times_out x parts) (times_in x parts)) → Used x
+    go : (x : Name) → (is_among x all ≡ false) ⊎ IsTrue (test x (held x)) → Used x
     go x (inl i) = unused x i
     go x (inr i) = used-is (links_in links x) (held x) (times_out x parts) (times_in x parts) i
 
