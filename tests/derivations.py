@@ -106,12 +106,12 @@ def declaration_term(node):
             return "DataDecl", record(place=at, name=name, parameters=idents(parameters), constructors=plain_list(lines, "\n"))
         case t.Protocol(_, _, parameters, local, lines):
             told = [line(name=ident(k.name), channel_type=chan_type(k.channel_type), local=ident(k.local)) for k in lines]
-            fields = record(place=at, name=name, parameters=idents(parameters), local=ident(local), constructors=plain_list(told, "\n"))
-            return "ProtocolDecl", fields
+            fields = {"parameters": idents(parameters), "local": ident(local), "constructors": plain_list(told, "\n")}
+            return "ProtocolDecl", record(place=at, name=name, **fields)
         case t.Coprotocol(_, local, _, parameters, lines):
             told = [line(name=ident(k.name), local=ident(k.local), channel_type=chan_type(k.channel_type)) for k in lines]
-            fields = record(place=at, local=ident(local), name=name, parameters=idents(parameters), constructors=plain_list(told, "\n"))
-            return "CoprotocolDecl", fields
+            fields = {"parameters": idents(parameters), "constructors": plain_list(told, "\n")}
+            return "CoprotocolDecl", record(place=at, local=ident(local), name=name, **fields)
         case t.Function(_, _, parameters, result, rows):
             types = plain_list([seq_type(u) for u in parameters])
             told = [f"function_row {place(r.place)} {patterns(r.patterns)} {expr(r.value)}" for r in rows]
@@ -201,22 +201,28 @@ def write(path, text):
 
 
 def law(name, refused):
-    told = f"law_{name}_is_refused" if refused else f"law_{name}"
-    fact = f"IsTyped {name} → ⊥" if refused else f"IsTyped {name}"
-    doc = f"No derivation types `data/refused/{name}.campl`." if refused else f"`data/{name}.campl` is typed."
-    return told, f"/// {doc}\npub fn {told}()\n    ensures {{ {fact} }}\n{{}}"
+    """The law's name, and its text."""
+    told, fact = (f"law_{name}_is_refused", "IsIllTyped") if refused else (f"law_{name}", "IsTyped")
+    doc = f"`data/refused/{name}.campl` is ill-typed." if refused else f"`data/{name}.campl` is typed."
+    return told, f"/// {doc}\npub fn {told}()\n    ensures {{ {fact} {name} }}\n{{}}"
 
 
-def write_laws(crate, about, names, refused):
-    uses = [f"ghost use {TYPES}.Typed.{{IsTyped}};", *(f"ghost use {SOURCES}.specs.{camel(name)}.{{{name}}};" for name in names)]
+def write_laws(crate, names, refused):
+    file, kind = ("refusals", "refused") if refused else ("laws", "accepted")
+    about = f"//! The laws of {kind} sources, functions with nothing to do, whose contracts they are."
+    word = f"{SOURCES}.specs.IllTyped.{{IsIllTyped}}" if refused else f"{TYPES}.Typed.{{IsTyped}}"
+    uses = [f"ghost use {x};" for x in [word, *(f"{SOURCES}.specs.{camel(name)}.{{{name}}}" for name in names)]]
     laws = [law(name, refused)[1] for name in names]
-    file = "refusals" if refused else "laws"
-    write(crate / f"src/{file}.rt", f"//! {about}\n" + "\n".join(uses) + "\n\n" + "\n\n".join(laws) + "\n")
+    write(crate / f"src/{file}.rt", "\n".join([about, *uses]) + "\n\n" + "\n\n".join(laws) + "\n")
     for name in names:
-        own = f"{file}.{law(name, refused)[0]}"
-        fact = "refused" if refused else "typed"
-        uses = f"use {SOURCES}.proofs.{camel(name)}.{{{fact}}}\nuse {SOURCES}.proofs.{own}.Goals as goal\n"
-        write(crate / f"proofs/{own.replace('.', '/')}/Answers.antt", f"{uses}\npub returns : goal.returns\nreturns c = {fact}\n")
+        write_answer(crate, name, f"{file}.{law(name, refused)[0]}", refused)
+
+
+def write_answer(crate, name, own, refused):
+    word, answer = ("refused", "(refl, refused)") if refused else ("typed", "typed")
+    uses = "use Rattle.std.proofs.Common.{refl}\n" if refused else ""
+    uses += f"use {SOURCES}.proofs.{camel(name)}.{{{word}}}\nuse {SOURCES}.proofs.{own}.Goals as goal\n"
+    write(crate / f"proofs/{own.replace('.', '/')}/Answers.antt", f"{uses}\npub returns : goal.returns\nreturns c = {answer}\n")
 
 
 def read(path):
@@ -232,10 +238,10 @@ def main(words):
         write(crate / f"specs/{camel(name)}.antt", tree_file(name, source, declarations))
     for name, _, declarations in accepted:
         write(crate / f"proofs/{camel(name)}.antt", proof_file(name, declarations))
-    write_laws(crate, "The laws of accepted sources, functions with nothing to do.", [x[0] for x in accepted], False)
-    write_laws(crate, "The laws of refused sources, functions with nothing to do.", [x[0] for x in refused], True)
+    write_laws(crate, [x[0] for x in accepted], False)
+    write_laws(crate, [x[0] for x in refused], True)
     modules = [camel(x[0]) for x in accepted + refused]
-    write(crate / "specs/Lib.antt", "".join(f"pub mod {x}\n" for x in ["Trees", *modules]))
+    write(crate / "specs/Lib.antt", "".join(f"pub mod {x}\n" for x in ["Trees", "IllTyped", *modules]))
     write(crate / "proofs/Lib.antt", "".join(f"pub mod {x}\n" for x in [*LEMMAS, *modules]))
 
 

@@ -11,7 +11,7 @@ OTHER = {"Input": "Output", "Output": "Input"}
 
 # what is done with a form of type on its output side; the other side does what faces it
 ON_OUTPUT = {t.PutType: "puts", t.GetType: "gets", t.Tensor: "forks", t.Par: "splits", t.TopBot: "ends"}
-FACING = {"puts": "gets", "gets": "puts", "forks": "splits", "splits": "forks", "ends": "ends", "picks": "offers", "offers": "picks"}
+FACING = {"puts": "gets", "gets": "puts", "forks": "splits", "splits": "forks", "picks": "offers", "offers": "picks"}
 
 
 def same_chan(a, b):

@@ -1,11 +1,12 @@
 -- What a derivation shows of a command: its channel is held as it is, the table's entry is the one that it is,
 -- and so the body that follows is well formed with what remains. With these a derivation is undone command by
 -- command, up to where there can be none.
-use Rattle.std.proofs.Common.{◌≡◌, ◌∙◌, refl, sym, ap, subst, false, List, [], ◌∷◌, Some, None, length}
+use Rattle.std.proofs.Common.{◌≡◌, ◌∙◌, refl, sym, ap, subst, Bool, false, List, [], ◌∷◌, Some, None, length}
 use Rattle.std.proofs.lemmas.Option.{none-some}
 use Rattle.campl_tree.specs.declared.place.Place.{Place}
 use Rattle.campl_tree.specs.declared.place.Ident.{Ident}
 use Rattle.campl_tree.specs.declared.service.Side.{Side}
+use Rattle.campl_tree.specs.declared.service.Side.TheVariants.{Input}
 use Rattle.campl_tree.specs.Plain.SeqType.{SeqType}
 use Rattle.campl_tree.specs.Plain.ChanType.{ChanType}
 use Rattle.campl_tree.specs.Plain.Expr as e
@@ -14,15 +15,15 @@ use Rattle.campl_tree.specs.Plain.Process as b
 use Rattle.campl_tree.specs.Plain.Process.{Body}
 use Rattle.campl_tree.specs.Plain.Decl.{FunctionDecl, ProcessDecl}
 use Rattle.campl_types.specs.Names.{Name, found, is_among}
-use Rattle.campl_types.specs.World.{World, function_named, type_parameters}
-use Rattle.campl_types.specs.Polarity.{Puts, Gets, Picks, Choices, deed}
+use Rattle.campl_types.specs.World.{World, function_named, process_named, type_parameters}
+use Rattle.campl_types.specs.Polarity.{Puts, Gets, Picks, Offers, Choices, deed}
 use Rattle.campl_types.specs.Fits.{Vars}
 use Rattle.campl_types.specs.Sequential.{HasType, Checked, PartsHaveTypes}
 use Rattle.campl_types.specs.SameType.{IsSame}
 use Rattle.campl_types.specs.Substitution.{filling, filled, variables_of}
 use Rattle.campl_types.specs.Headers.{links_in, share}
 use Rattle.campl_types.specs.Held.{Channel, On, Held, with, without}
-use Rattle.campl_types.specs.Linear.{IsWellFormed, ProcessIsTyped, row_variables, row_channels}
+use Rattle.campl_types.specs.Linear.{IsWellFormed, ProcessIsTyped, HasEachOnce, AreJoined, AreHanded, row_variables, row_channels}
 
 -- a record, so that the world and what is held can be read off it
 pub record Formed (w : World) (vs : Vars) (held : Held) (body : Body) : Type 0 where
@@ -78,6 +79,32 @@ put-value {w} {vs} {held} {a = a} h i j =
 pub first-part : {w : World} {vs : Vars} {held : Held} {at : Place} {links : List b.Link} {header : b.Header} {body : Body} {parts : b.Parts}
     → Formed w vs held (b.Plug at links (b.part_then header body parts)) → Formed w vs (share (links_in links) held header) body
 first-part h = record { well-formed = h.well-formed.3.0 }
+
+-- each constructor that is offered has one row
+pub each-once : {w : World} {vs : Vars} {held : Held} {at : Place} {x : Ident} {rows : b.HcaseRows} {s : Side} {u : ChanType} {cs : Choices}
+    → Formed w vs held (b.Hcase at x rows) → held x.name ≡ Some (On s u) → deed w s u ≡ Offers cs → HasEachOnce rows cs
+each-once {w} {rows = rows} h i j = let d = h.well-formed in subst (HasEachOnce rows) (same (sym d.4 ∙ same-deed w (sym d.3 ∙ i) ∙ j)) d.5
+  where
+    same : {cs ds : Choices} → Offers cs ≡ Offers ds → cs ≡ ds
+    same k = cc
+
+-- the ends of an identity fit together as they are held
+pub joined : {w : World} {vs : Vars} {held : Held} {at : Place} {x : Name} {negated : Bool} {y : Ident} {s r : Side} {t u : ChanType}
+    → Formed w vs held (b.Identity at x negated y) → held x ≡ Some (On s t) → held y.name ≡ Some (On r u) → AreJoined negated s r t u
+joined {negated = negated} {r = r} {t = t} {u = u} h i j =
+    let d = h.well-formed in
+    let p = sym d.4 ∙ i in
+    let q = sym d.5 ∙ j in
+    let first = subst (λ s. AreJoined negated s d.2 d.1 d.3) (same-side p) d.7 in
+    let second = subst (λ t. AreJoined negated _ d.2 t d.3) (same-type p) first in
+    let third = subst (λ r. AreJoined negated _ r t d.3) (same-side q) second in
+    subst (λ u. AreJoined negated _ r t u) (same-type q) third
+
+-- the inputs of a call are held as the process's heading has them
+pub handed-inputs : {w : World} {vs : Vars} {held : Held} {at : Place} {x : Name} {args : Exprs} {inputs outputs : List Ident} {p : ProcessDecl}
+    → Formed w vs held (b.Call at x args inputs outputs) → process_named w x ≡ Some p → AreHanded held Input inputs p.inputs
+handed-inputs {held = held} {inputs = inputs} h i =
+    let d = h.well-formed in subst (λ (p : ProcessDecl). AreHanded held Input inputs p.inputs) (same-some (sym d.1 ∙ i)) d.3
 
 -- a call that is checked: the result at the filling is the type, and the parts have their types
 abbrev Called : World → Vars → Exprs → SeqType → FunctionDecl → Type 0

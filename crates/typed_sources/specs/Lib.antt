@@ -1,4 +1,5 @@
 pub mod Trees
+pub mod IllTyped
 pub mod Bank
 pub mod ChainOfStages
 pub mod EndsTravel
@@ -20,9 +21,21 @@ pub mod SendsAhead
 pub mod SharesTwoChannels
 pub mod UsesAllCommands
 pub mod UsesAllExpressions
+pub mod CallsWithoutAnArgument
+pub mod ComparesPairs
 pub mod FirstOfANumber
+pub mod ForksToAHeldName
 pub mod HaltsAClosedChannel
+pub mod HandsOverAnOutput
+pub mod HasAPatternTooMany
+pub mod HasARowTwice
 pub mod LeavesAChannel
+pub mod LinksTwoInputs
 pub mod MissesAColour
+pub mod MissesAConstructor
+pub mod NamesAVariableTwice
+pub mod PlugsOnePart
 pub mod PutsAtAGet
+pub mod RacesAtAPick
 pub mod SizesNothing
+pub mod UsesALinkThrice

@@ -1,4 +1,4 @@
-//! The laws of accepted sources, functions with nothing to do.
+//! The laws of accepted sources, functions with nothing to do, whose contracts they are.
 ghost use Rattle.campl_types.specs.Typed.{IsTyped};
 ghost use Rattle.typed_sources.specs.Bank.{bank};
 ghost use Rattle.typed_sources.specs.ChainOfStages.{chain_of_stages};

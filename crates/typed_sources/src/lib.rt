@@ -1,8 +1,9 @@
-//! Accepted sources, each proved typed: a review of the definitions of typing in `campl_types` on whole programs.
+//! Whole sources, each proved typed or ill-typed: a review of the definitions of typing in `campl_types`.
 //!
-//! `data/NAME.campl` is a source, `specs/` has its tree, and `proofs/` the derivation of its typing, which
-//! `tests/derivations.py` writes and the prover judges. Each law says of one source that it is well declared and that each
-//! of its functions and processes has a derivation by the typing rules.
+//! `data/NAME.campl` is a source that is accepted, and `data/refused/NAME.campl` one that isn't, though its names are well
+//! declared. `specs/` has their trees. Each law says of an accepted source that it is typed: that each of its functions and
+//! processes has a derivation by the rules, which stands in `proofs/`; or of a refused one that there is none.
+//! `tests/derivations.py` writes the trees, the derivations and the laws from the sources, and the prover judges them.
 #![tactic(auto)]
 
 mod laws;
