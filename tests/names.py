@@ -301,11 +301,11 @@ def changed(text, line, old, new):
 
 
 def worked(name):
-    return text_of(os.path.join(HERE, "worked", name + ".campl"))
+    return text_of(os.path.join(HERE, "../crates/typed_sources/data", name + ".campl"))
 
 
 def rows_worked_by_hand():
-    maybe, box = worked("maybe"), worked("box")
+    maybe, box = worked("first_of_texts"), worked("gives_a_box")
     return [
         ("", "E23 NoRun at 1:1"),
         (" " * 1000, "E23 NoRun at 1:1"),
