@@ -23,14 +23,24 @@ awk 'BEGIN {
 }' >"$work/many"
 awk 'BEGIN { for (i = 0; i < 1048576; i++) printf "(" }' >"$work/brackets"
 awk 'BEGIN { printf "fun f :: -> Int where\n -> "; for (i = 0; i < 200000; i++) printf "case " }' >"$work/cases"
-# Scrutinees that nest 40,000 deep: in a bracket, a line to the left of a block closes it and begins nothing.
+# Scrutinees that nest 80,000 deep: in a bracket, a line to the left of a block closes it and begins nothing.
 awk 'BEGIN {
     printf "fun f :: -> Int where\n -> ("
-    for (i = 0; i < 40000; i++) printf "case "
-    printf "x\n"
-    for (i = 0; i < 40000; i++) printf "of a->a\n"
+    for (i = 0; i < 80000; i++) printf "case "
+    printf "1\n"
+    for (i = 0; i < 80000; i++) printf "of a->a\n"
     printf ")\n"
 }' >"$work/scrutinees"
+# Functions that call one another, up to 1 MiB and up to a half.
+for size in 1048200 524100; do
+    awk -v most="$size" 'BEGIN {
+        for (i = 0; size < most; i++) {
+            text = "fun f" i " :: Int -> Int where\n    n -> f" int(i / 2) "(n) + f" int(i / 3) "(n)\n"
+            size += length(text)
+            if (size < most) printf "%s", text
+        }
+    }' >"$work/calls$size"
+done
 awk 'BEGIN {
     printf "fun f :: -> Int where\n -> "
     for (i = 0; i < 90; i++) printf "f("
@@ -62,7 +72,7 @@ seconds() {
     awk -v a="$start" -v b="$(date +%s%N)" 'BEGIN { print (b - a) / 1e9 }'
 }
 
-for source in many brackets cases scrutinees operators chains; do
+for source in many brackets cases scrutinees operators chains calls524100 calls1048200; do
     run "$source"
 done
 whole=$(seconds "$program" run "$work/many")
