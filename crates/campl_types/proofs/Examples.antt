@@ -6,3 +6,7 @@ mod Missing
 mod Typed
 mod Parameters
 mod Plugs
+mod Commands
+mod Refused
+mod RefusedCalls
+mod RefusedCommands
