@@ -10,3 +10,5 @@ mod Commands
 mod Refused
 mod RefusedCalls
 mod RefusedCommands
+mod RefusedPlugs
+mod RefusedExpressions
