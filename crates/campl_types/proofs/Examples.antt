@@ -12,3 +12,8 @@ mod RefusedCalls
 mod RefusedCommands
 mod RefusedPlugs
 mod RefusedExpressions
+mod Expressions
+mod Alone
+mod Bodies
+mod Patterns
+mod Heads

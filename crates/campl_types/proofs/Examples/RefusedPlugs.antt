@@ -2,9 +2,7 @@
 use Rattle.std.proofs.Common.{◌≡◌, refl, subst, pos, arith, List, [], ◌∷◌, Some, None, codes}
 use Rattle.campl_tree.specs.declared.place.Place.{Place}
 use Rattle.campl_tree.specs.declared.place.Ident.{Ident}
-use Rattle.campl_tree.specs.declared.process.Binder.TheVariants as binder
 use Rattle.campl_tree.specs.declared.service.Side.TheVariants.{Input, Output}
-use Rattle.campl_tree.specs.Plain.SeqType as s
 use Rattle.campl_tree.specs.Plain.ChanType.{ChanType, TopBot}
 use Rattle.campl_tree.specs.Plain.Expr as e
 use Rattle.campl_tree.specs.Plain.Process as b
@@ -18,6 +16,7 @@ use Rattle.campl_types.specs.Headers.{links_in, IsUsed, times_out, times_in}
 use Rattle.campl_types.specs.Sequential.{PartsHaveTypes}
 use Rattle.campl_types.specs.Linear.{IsWellFormed, AreHanded}
 use Rattle.campl_types.proofs.Examples.Sources.{place, ident, protocol}
+use Rattle.campl_types.proofs.Examples.Bodies.{ends}
 
 -- Plugs
 
@@ -118,26 +117,7 @@ links-twice (count, names, divided, all) = cc names
 one-part : IsPlug links nothing_held (part (c ∷ []) (c ∷ []) b.no_parts) → ⊥
 one-part ((few, many), names, divided, all) = omega arith
 
--- Calls, of
---
---     proc ends :: Int | TopBot => where
---         n | x => -> halt x
-abbrev ends : d.ProcessDecl
-ends =
-    record {
-      place = place 1 1;
-      name = ident 1 6 (codes "ends");
-      parameters = s.Int ∷ [];
-      inputs = TopBot ∷ [];
-      outputs = [];
-      row = record {
-        place = place 2 5;
-        variables = binder.Variable (place 2 5) (codes "n") ∷ [];
-        inputs = ident 2 9 (codes "x") ∷ [];
-        outputs = [];
-        body = b.Halt (place 2 16) (Some (ident 2 21 (codes "x")));
-      };
-    }
+-- Calls of the process `ends :: Int | TopBot =>` of Bodies
 
 abbrev w : World
 w = world_of (d.Process ends ∷ [])
