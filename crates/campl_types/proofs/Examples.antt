@@ -17,3 +17,4 @@ mod Alone
 mod Bodies
 mod Patterns
 mod Heads
+mod Views
