@@ -18,3 +18,4 @@ mod Bodies
 mod Patterns
 mod Heads
 mod Views
+mod Known
