@@ -19,3 +19,4 @@ mod Patterns
 mod Heads
 mod Views
 mod Known
+mod Spaces
