@@ -20,3 +20,4 @@ mod Heads
 mod Views
 mod Known
 mod Spaces
+mod Apart

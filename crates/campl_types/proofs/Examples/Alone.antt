@@ -1,8 +1,8 @@
 -- That nothing is held but certain channels: `simp` shows it with these, once for each name.
-use Rattle.std.proofs.Common.{◌≡◌, ◌∙◌, refl, Bool, true, false, ◌||◌, List, [], ◌∷◌, Option, None, if◌then◌else◌}
+use Rattle.std.proofs.Common.{◌≡◌, ◌∙◌, ◌⊎◌, inl, inr, refl, sym, subst, Bool, true, false, ◌||◌, List, [], ◌∷◌, Option, None, if◌then◌else◌}
 use Rattle.campl_types.specs.Names.{Name, same_name, is_among}
-use Rattle.campl_types.specs.Held.{Channel}
-use Rattle.campl_types.proofs.Names.{same-turned}
+use Rattle.campl_types.specs.Held.{Channel, Held, without, HoldsOnly}
+use Rattle.campl_types.proofs.Names.{same-itself, same-turned, split-names}
 
 neither : (p q : Bool) → (p || q) ≡ false → (p ≡ false) × (q ≡ false)
 neither false q i = (refl, i)
@@ -24,3 +24,11 @@ newest false c d e = refl
 pub given-up : (b : Bool) → ◌≡◌ {A = Option Channel} (if b then None else None) None
 given-up true = refl
 given-up false = refl
+
+-- where one of the names is given up, nothing is held but under the others
+pub others-alone : (x : Name) (xs : List Name) (held : Held) → HoldsOnly (x ∷ xs) held → HoldsOnly xs (without x held)
+others-alone x xs held alone y i = go (split-names y x)
+  where
+    go : (y ≡ x) ⊎ (same_name y x ≡ false) → without x held y ≡ None
+    go (inl e) = subst (λ z. without x held z ≡ None) (sym e) (rw (same-itself x) refl)
+    go (inr other) = let turned : same_name x y ≡ false = same-turned x y ∙ other in rw turned (alone y (rw other i))
