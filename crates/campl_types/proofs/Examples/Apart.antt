@@ -5,7 +5,7 @@ use Rattle.campl_tree.specs.Plain.ChanType.{TopBot}
 use Rattle.campl_tree.specs.Plain.Process as b
 use Rattle.campl_tree.specs.Plain.Decl.{Program}
 use Rattle.campl_types.specs.Names.{Name, same_name}
-use Rattle.campl_types.specs.World.{World, world_of}
+use Rattle.campl_types.specs.World.{world_of}
 use Rattle.campl_types.specs.Held.{nothing_held}
 use Rattle.campl_types.specs.Headers.{links_in, share, IsUsed, times_in, times_out}
 use Rattle.campl_types.specs.Linear.{IsWellFormed}

@@ -1,20 +1,20 @@
 -- A well formed command of each form that Typed and Plugs don't have, and a typed source.
-use Rattle.std.proofs.Common.{◌≡◌, ◌≤◌, refl, subst, pos, arith, Bool, true, false, IsTrue, [], ◌∷◌, Some, None, if◌then◌else◌, codes}
+use Rattle.std.proofs.Common.{◌≡◌, refl, subst, pos, arith, Bool, true, false, IsTrue, [], ◌∷◌, Some, None, if◌then◌else◌, codes}
 use Rattle.campl_tree.specs.declared.place.Ident.{Ident}
 use Rattle.campl_tree.specs.declared.process.Binder.TheVariants as binder
 use Rattle.campl_tree.specs.declared.service.Side.{Side}
 use Rattle.campl_tree.specs.declared.service.Side.TheVariants.{Input, Output}
 use Rattle.campl_tree.specs.Plain.SeqType as s
-use Rattle.campl_tree.specs.Plain.ChanType.{ChanType, Put, Tensor, Par, TopBot, Neg}
+use Rattle.campl_tree.specs.Plain.ChanType.{ChanType, Put, Par, TopBot, Neg}
 use Rattle.campl_tree.specs.Plain.Pattern as p
 use Rattle.campl_tree.specs.Plain.Expr as e
 use Rattle.campl_tree.specs.Plain.Process as b
 use Rattle.campl_tree.specs.Plain.Decl as d
 use Rattle.campl_tree.specs.Plain.Decl.{Program}
-use Rattle.campl_types.specs.Names.{Name, same_name}
+use Rattle.campl_types.specs.Names.{same_name}
 use Rattle.campl_types.specs.World.{World, world_of}
 use Rattle.campl_types.specs.Prelude.{prelude}
-use Rattle.campl_types.specs.Held.{On, Held, Channel, nothing_held, with, HasNoVariables, is_closed}
+use Rattle.campl_types.specs.Held.{On, Held, nothing_held, with, HasNoVariables, is_closed}
 use Rattle.campl_types.specs.Linear.{IsWellFormed, ProcessIsTyped, row_channels}
 use Rattle.campl_types.specs.Typed.{IsTyped}
 use Rattle.campl_types.proofs.Examples.Sources.{place, ident, protocol, protocol_decl, line, silent_run}

@@ -7,7 +7,7 @@ use Rattle.campl_tree.specs.Plain.ChanType.{ChanType}
 use Rattle.campl_tree.specs.Plain.Process as b
 use Rattle.campl_types.specs.Names.{Name, found, is_among}
 use Rattle.campl_types.specs.World.{World}
-use Rattle.campl_types.specs.Polarity.{Deed, Picks, Ends, Choices, deed}
+use Rattle.campl_types.specs.Polarity.{Deed, Picks, Choices, deed}
 use Rattle.campl_types.specs.Fits.{Vars}
 use Rattle.campl_types.specs.Held.{Channel, On, Held, with, without}
 use Rattle.campl_types.specs.Linear.{IsWellFormed}

@@ -1,5 +1,5 @@
 -- An expression of each form with its type.
-use Rattle.std.proofs.Common.{◌≡◌, refl, pos, [], ◌∷◌, Some, None, codes}
+use Rattle.std.proofs.Common.{refl, pos, [], ◌∷◌, codes}
 use Rattle.campl_tree.specs.declared.expr.Arithmetic.TheVariants as calculate
 use Rattle.campl_tree.specs.declared.expr.Comparison.TheVariants as compare
 use Rattle.campl_tree.specs.Plain.SeqType as s

@@ -1,11 +1,11 @@
 -- Each rule on names that are used, as the faults of one form, in source order.
-use Rattle.std.proofs.Common.{◌≡◌, refl, ℕ, pos, List, [], ◌∷◌, Some, None, true, false, codes}
+use Rattle.std.proofs.Common.{◌≡◌, refl, ℕ, pos, List, [], ◌∷◌, Some, true, codes}
 use Rattle.campl_tree.specs.declared.place.Ident.{Ident}
 use Rattle.campl_tree.specs.declared.expr.Arithmetic.TheVariants as calculate
 use Rattle.campl_tree.specs.declared.expr.Comparison.TheVariants as compare
 use Rattle.campl_tree.specs.declared.process.Binder.TheVariants as binder
 use Rattle.campl_tree.specs.Plain.SeqType as s
-use Rattle.campl_tree.specs.Plain.ChanType.{ChanType, Put, Get, Tensor, Par, TopBot, Neg, Named}
+use Rattle.campl_tree.specs.Plain.ChanType.{Put, Get, Tensor, Par, TopBot, Neg, Named}
 use Rattle.campl_tree.specs.Plain.Pattern as p
 use Rattle.campl_tree.specs.Plain.Expr as e
 use Rattle.campl_tree.specs.Plain.Process as b

@@ -8,7 +8,7 @@ use Rattle.campl_types.specs.Fits.{fits, all_fit}
 use Rattle.campl_types.specs.Matching.{matched, row_matched, first_match}
 use Rattle.campl_types.specs.Prelude.{prelude}
 use Rattle.campl_types.specs.World.{World, world_of}
-use Rattle.campl_types.proofs.Examples.Sources.{place, ident, named, data_decl, constructor, protocol_decl}
+use Rattle.campl_types.proofs.Examples.Sources.{place, ident, named, data_decl, constructor}
 
 abbrev a : p.Pattern
 a = p.Variable (place 1 1) (codes "a")

@@ -1,7 +1,6 @@
 -- Worked sources that aren't typed.
-use Rattle.std.proofs.Common.{◌≡◌, refl, pos, List, [], ◌∷◌, Some, None, codes}
+use Rattle.std.proofs.Common.{◌≡◌, refl, List, [], ◌∷◌, Some, codes}
 use Rattle.campl_tree.specs.declared.place.Ident.{Ident}
-use Rattle.campl_tree.specs.declared.service.Side.{Side}
 use Rattle.campl_tree.specs.declared.service.Side.TheVariants.{Input, Output}
 use Rattle.campl_tree.specs.Plain.SeqType as s
 use Rattle.campl_tree.specs.Plain.ChanType.{ChanType, Get, TopBot, Named}
@@ -13,7 +12,6 @@ use Rattle.campl_tree.specs.Plain.Decl.{Program}
 use Rattle.campl_types.specs.Names.{Name}
 use Rattle.campl_types.specs.SameType.{nowhere}
 use Rattle.campl_types.specs.World.{World, world_of}
-use Rattle.campl_types.specs.Polarity.{Gets, Puts, deed}
 use Rattle.campl_types.specs.Forms.{Built, none}
 use Rattle.campl_types.specs.Held.{On, Held, nothing_held, with, without}
 use Rattle.campl_types.specs.Missing.{missing}

@@ -1,5 +1,5 @@
 -- Calls with type parameters that aren't typed, of the declarations of Parameters.
-use Rattle.std.proofs.Common.{◌≡◌, refl, sym, subst, pos, List, [], ◌∷◌, Some, codes, map, length}
+use Rattle.std.proofs.Common.{◌≡◌, refl, subst, pos, List, [], ◌∷◌, Some, codes, length}
 use Rattle.campl_tree.specs.declared.place.Place.{Place}
 use Rattle.campl_tree.specs.Plain.SeqType as s
 use Rattle.campl_tree.specs.Plain.SeqType.{SeqType}
@@ -8,12 +8,12 @@ use Rattle.campl_tree.specs.Plain.Expr as e
 use Rattle.campl_tree.specs.Plain.Decl as d
 use Rattle.campl_types.specs.Names.{Name}
 use Rattle.campl_types.specs.World.{World, function_named, type_parameters}
-use Rattle.campl_types.specs.Substitution.{Filling, filling, filled, variables_of}
+use Rattle.campl_types.specs.Substitution.{filling, filled, variables_of}
 use Rattle.campl_types.specs.SameType.{IsSame}
 use Rattle.campl_types.specs.Fits.{Vars}
 use Rattle.campl_types.specs.Sequential.{MayBeChecked, FunctionIsTyped, PartsHaveTypes}
 use Rattle.campl_types.proofs.Examples.Sources.{place, ident}
-use Rattle.campl_types.proofs.Examples.Parameters.{a, maybe, first, size, w, first-of-one}
+use Rattle.campl_types.proofs.Examples.Parameters.{maybe, first, size, w, first-of-one}
 
 -- a call of this function has this type, where these parameters are known by its result
 abbrev IsCallOf : World → Vars → d.FunctionDecl → e.Exprs → SeqType → Type 0

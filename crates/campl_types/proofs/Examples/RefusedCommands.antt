@@ -1,5 +1,5 @@
 -- Commands that aren't well formed.
-use Rattle.std.proofs.Common.{◌≡◌, refl, subst, pos, arith, Bool, true, false, not, List, [], ◌∷◌, Some, None, if◌then◌else◌, codes}
+use Rattle.std.proofs.Common.{◌≡◌, refl, subst, pos, arith, Bool, true, false, not, [], ◌∷◌, Some, None, if◌then◌else◌, codes}
 use Rattle.campl_tree.specs.declared.place.Ident.{Ident}
 use Rattle.campl_tree.specs.declared.process.Binder.TheVariants as binder
 use Rattle.campl_tree.specs.declared.service.Side.{Side}
@@ -9,7 +9,6 @@ use Rattle.campl_tree.specs.Plain.ChanType.{ChanType, Put, Tensor, Par, TopBot, 
 use Rattle.campl_tree.specs.Plain.Expr as e
 use Rattle.campl_tree.specs.Plain.Process as b
 use Rattle.campl_types.specs.World.{World, world_of}
-use Rattle.campl_types.specs.Polarity.{Offers, Choices, deed}
 use Rattle.campl_types.specs.Prelude.{prelude}
 use Rattle.campl_types.specs.Held.{Channel, On, Held, nothing_held, with}
 use Rattle.campl_types.specs.Linear.{IsWellFormed, HasEachOnce}

@@ -1,5 +1,5 @@
 -- Expressions, patterns and rows that aren't typed.
-use Rattle.std.proofs.Common.{◌≡◌, refl, subst, pos, List, [], ◌∷◌, Some, None, codes}
+use Rattle.std.proofs.Common.{◌≡◌, refl, subst, pos, List, [], ◌∷◌, None, codes}
 use Rattle.campl_tree.specs.declared.expr.Comparison.TheVariants as compare
 use Rattle.campl_tree.specs.Plain.SeqType as s
 use Rattle.campl_tree.specs.Plain.SeqType.{SeqType}
@@ -10,7 +10,7 @@ use Rattle.campl_types.specs.SameType.{bare}
 use Rattle.campl_types.specs.Prelude.{prelude}
 use Rattle.campl_types.specs.Forms.{Number}
 use Rattle.campl_types.specs.Missing.{missing}
-use Rattle.campl_types.specs.Sequential.{IsFoundToHave, MayBeChecked, FunctionIsTyped, RowIsTyped, IsComparable}
+use Rattle.campl_types.specs.Sequential.{IsFoundToHave, MayBeChecked, FunctionIsTyped, IsComparable}
 use Rattle.campl_types.proofs.Examples.Sources.{place, ident}
 
 abbrev one : e.Expr

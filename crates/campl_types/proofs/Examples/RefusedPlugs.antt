@@ -1,14 +1,13 @@
 -- Plugs and calls of processes that aren't well formed.
-use Rattle.std.proofs.Common.{◌≡◌, refl, subst, pos, arith, List, [], ◌∷◌, Some, None, codes}
-use Rattle.campl_tree.specs.declared.place.Place.{Place}
+use Rattle.std.proofs.Common.{◌≡◌, subst, pos, arith, List, [], ◌∷◌, Some, None, codes}
 use Rattle.campl_tree.specs.declared.place.Ident.{Ident}
 use Rattle.campl_tree.specs.declared.service.Side.TheVariants.{Input, Output}
-use Rattle.campl_tree.specs.Plain.ChanType.{ChanType, TopBot}
+use Rattle.campl_tree.specs.Plain.ChanType.{TopBot}
 use Rattle.campl_tree.specs.Plain.Expr as e
 use Rattle.campl_tree.specs.Plain.Process as b
 use Rattle.campl_tree.specs.Plain.Decl as d
 use Rattle.campl_types.specs.Names.{Name}
-use Rattle.campl_types.specs.World.{World, world_of, process_named}
+use Rattle.campl_types.specs.World.{World, world_of}
 use Rattle.campl_types.specs.Prelude.{prelude}
 use Rattle.campl_types.specs.Fits.{Vars}
 use Rattle.campl_types.specs.Held.{On, Held, nothing_held, with}

@@ -1,8 +1,6 @@
 -- The spaces of names, and the process `run`.
-use Rattle.std.proofs.Common.{◌≡◌, refl, pos, List, [], ◌∷◌, Some, None, codes}
+use Rattle.std.proofs.Common.{◌≡◌, refl, pos, List, [], ◌∷◌, None, codes}
 use Rattle.campl_tree.specs.declared.place.Ident.{Ident}
-use Rattle.campl_tree.specs.declared.process.Binder.{Binder}
-use Rattle.campl_tree.specs.declared.process.Binder.TheVariants as binder
 use Rattle.campl_tree.specs.declared.service.Side.TheVariants.{Input, Output}
 use Rattle.campl_tree.specs.Plain.SeqType as s
 use Rattle.campl_tree.specs.Plain.ChanType.{ChanType, TopBot}
@@ -12,7 +10,7 @@ use Rattle.campl_tree.specs.Plain.Process as b
 use Rattle.campl_tree.specs.Plain.Decl as d
 use Rattle.campl_types.specs.declared.fault.NameFault.TheVariants.{Twice, NoRun, RunNotService}
 use Rattle.campl_types.specs.Names.{Name}
-use Rattle.campl_types.specs.WellDeclared.{name_faults, first_fault}
+use Rattle.campl_types.specs.WellDeclared.{name_faults}
 use Rattle.campl_types.specs.Run.{run_faults, services_of}
 use Rattle.campl_types.specs.World.{world_of, type_parameters}
 use Rattle.campl_types.proofs.Examples.Sources.{place, ident, protocol, data_decl, constructor, protocol_decl, line, process, silent_run}

@@ -1,5 +1,5 @@
 -- Each entry of the polarity table, views, letters and values.
-use Rattle.std.proofs.Common.{◌≡◌, refl, inl, inr, pos, [], ◌∷◌, Some, None, true, false, codes}
+use Rattle.std.proofs.Common.{◌≡◌, refl, inl, inr, pos, [], ◌∷◌, Some, None, true, codes}
 use Rattle.campl_tree.specs.declared.service.Side.TheVariants.{Input, Output}
 use Rattle.campl_tree.specs.Plain.SeqType as s
 use Rattle.campl_tree.specs.Plain.ChanType.{ChanType, Put, Get, Tensor, Par, TopBot, Neg, Named}
@@ -11,7 +11,7 @@ use Rattle.campl_types.specs.Values.{IsValue}
 use Rattle.campl_types.specs.Polarity.{Puts, Gets, Forks, Splits, Picks, Offers, Ends, IsLinked, deed, after, ArePartners}
 use Rattle.campl_types.specs.Views.{As, Nothing, view_of, Takes, TakesAll, Word, Pick, TwoEnds}
 use Rattle.campl_types.specs.World.{World, world_of}
-use Rattle.campl_types.proofs.Examples.Sources.{place, ident, named, protocol, data_decl, constructor, protocol_decl, line}
+use Rattle.campl_types.proofs.Examples.Sources.{place, ident, protocol, data_decl, constructor, protocol_decl, line}
 
 abbrev number : ChanType
 number = Put s.Int TopBot
