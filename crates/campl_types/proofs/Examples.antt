@@ -21,3 +21,4 @@ mod Views
 mod Known
 mod Spaces
 mod Apart
+mod Parts
