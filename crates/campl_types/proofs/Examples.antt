@@ -22,3 +22,4 @@ mod Known
 mod Spaces
 mod Apart
 mod Parts
+mod Lookups

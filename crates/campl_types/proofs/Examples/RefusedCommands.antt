@@ -1,17 +1,22 @@
 -- Commands that aren't well formed.
-use Rattle.std.proofs.Common.{◌≡◌, refl, subst, pos, arith, Bool, true, false, not, [], ◌∷◌, Some, None, if◌then◌else◌, codes}
+use Rattle.std.proofs.Common.{◌≡◌, ℕ, zero, suc, refl, subst, pos, arith, Bool, true, false, not, [], ◌∷◌, Some, None, if◌then◌else◌, codes}
 use Rattle.campl_tree.specs.declared.place.Ident.{Ident}
 use Rattle.campl_tree.specs.declared.process.Binder.TheVariants as binder
 use Rattle.campl_tree.specs.declared.service.Side.{Side}
 use Rattle.campl_tree.specs.declared.service.Side.TheVariants.{Input, Output}
 use Rattle.campl_tree.specs.Plain.SeqType as s
 use Rattle.campl_tree.specs.Plain.ChanType.{ChanType, Put, Tensor, Par, TopBot, Neg}
+use Rattle.campl_tree.specs.Plain.SeqType.{SeqType}
+use Rattle.campl_tree.specs.Plain.Pattern as p
 use Rattle.campl_tree.specs.Plain.Expr as e
+use Rattle.campl_types.specs.SameType.{bare}
+use Rattle.campl_types.specs.Missing.{missing}
+use Rattle.campl_types.specs.Sequential.{HasType, Checked}
 use Rattle.campl_tree.specs.Plain.Process as b
 use Rattle.campl_types.specs.World.{World, world_of}
 use Rattle.campl_types.specs.Prelude.{prelude}
 use Rattle.campl_types.specs.Held.{Channel, On, Held, nothing_held, with}
-use Rattle.campl_types.specs.Linear.{IsWellFormed, HasEachOnce}
+use Rattle.campl_types.specs.Linear.{IsWellFormed, HasEachOnce, body_rows}
 use Rattle.campl_types.proofs.Examples.Sources.{place, ident, protocol, protocol_decl, line}
 use Rattle.campl_types.proofs.Examples.Commands.{one-deed}
 
@@ -31,6 +36,54 @@ two side t other u = with (codes "x") (Some (On side t)) (with (codes "y") (Some
 
 abbrev number : ChanType
 number = Put s.Int TopBot
+
+-- Actions
+
+-- put 'a' on x, where a number is due
+other-value : IsWellFormed prelude [] (one Output number) (b.Then (b.Put (place 1 1) (e.Character (place 1 5) 97) x) (b.Halt (place 2 1) (Some x))) → ⊥
+other-value (r, u, t, v, i, j, value, rest) = let k : t ≡ s.Int = cc (one-deed prelude i j) in cc (subst (HasType Checked prelude [] (e.Character (place 1 5) 97)) k value)
+
+-- get v on x, where nothing but identity may be
+negated : IsWellFormed prelude [] (one Input (Neg number)) (b.Then (b.Get (place 1 1) (binder.Wildcard (place 1 5)) x) (b.Halt (place 2 1) (Some x))) → ⊥
+negated (r, u, t, v, i, j, rest) = cc (one-deed prelude i j)
+
+-- close x and halt x, where a number is due
+closed-early : IsWellFormed prelude [] (one Input number) (b.Then (b.Close (place 1 1) x) (b.Halt (place 2 1) None)) → ⊥
+closed-early (r, u, i, j, rest) = cc (one-deed prelude i j)
+
+halted-early : IsWellFormed prelude [] (one Input number) (b.Halt (place 1 1) (Some x)) → ⊥
+halted-early (r, u, i, j, alone) = cc (one-deed prelude i j)
+
+-- halt, where x is held
+left-over : IsWellFormed prelude [] (one Input TopBot) (b.Halt (place 1 1) None) → ⊥
+left-over alone = cc (alone (codes "x") refl)
+
+-- Cases
+
+-- case True of
+--     True -> halt x
+abbrev halts : b.Body
+halts = b.Halt (place 9 9) (Some x)
+
+abbrev true-row : b.CaseRows
+true-row = b.case_row_then (p.True (place 2 5)) halts b.no_case_rows
+
+is-Bool : (u : SeqType) → bare u ≡ s.Bool → u ≡ s.Bool
+is-Bool s.Int i = cc i
+is-Bool s.Char i = cc i
+is-Bool s.Bool i = refl
+is-Bool (s.List t) i = cc i
+is-Bool (s.Pair t u) i = cc i
+is-Bool (s.Named at x us) i = cc i
+is-Bool (s.Variable at x) i = cc i
+
+true-alone : IsWellFormed prelude [] (one Input TopBot) (b.Case (place 1 1) (e.True (place 1 6)) true-row) → ⊥
+true-alone (u, i, rows, all) = cc (subst (λ u. missing prelude (body_rows true-row) (u ∷ []) ≡ None) (is-Bool u i) all)
+
+-- case (1, 2) of
+--     (n, n) -> halt x
+name-twice : IsWellFormed prelude [] (one Input TopBot) (b.Case (place 1 1) (e.Pair (place 1 6) (e.Number (place 1 7) (pos 1)) (e.Number (place 1 10) (pos 2))) (b.case_row_then (p.Pair (place 2 5) (p.Variable (place 2 6) (codes "n")) (p.Variable (place 2 9) (codes "n"))) halts b.no_case_rows)) → ⊥
+name-twice (u, i, (vs, fit, names, body, rest), all) = cc names
 
 -- Races
 
@@ -60,6 +113,14 @@ no-receipt (count, names, (receives, body, rest)) = cc receives
 -- two branches for x
 branch-twice : IsWellFormed prelude [] (one Input number) (b.Race (place 1 1) (b.branch_then x gets (b.branch_then x gets b.no_branches))) → ⊥
 branch-twice (count, names, rest) = cc names
+
+-- 17 branches are too many
+abbrev branches : ℕ → b.Branches
+branches zero = b.no_branches
+branches (suc n) = b.branch_then x gets (branches n)
+
+too-many-branches : IsWellFormed prelude [] (one Input number) (b.Race (place 1 1) (branches 17)) → ⊥
+too-many-branches ((few, many), names, rows) = omega arith
 
 -- Choices, of
 --
@@ -92,6 +153,13 @@ row-missing (r, u, cs, i, j, each, rows) =
 --     Zero -> halt x
 row-twice : IsWellFormed bits [] (one Input bit) (b.Hcase (place 1 1) x (zero-row (zero-row b.no_hcase_rows))) → ⊥
 row-twice (r, u, cs, i, j, (different, all), rows) = cc different
+
+-- hcase x of
+--     Zero -> halt x
+--     One -> halt x
+--     ConsoleClose -> halt x
+other-row : IsWellFormed bits [] (one Input bit) (b.Hcase (place 1 1) x (zero-row (b.hcase_row_then (ident 3 5 (codes "One")) (b.Halt (place 3 12) (Some x)) (b.hcase_row_then (ident 4 5 (codes "ConsoleClose")) (b.Halt (place 4 21) (Some x)) b.no_hcase_rows)))) → ⊥
+other-row (r, u, cs, i, j, each, (t, k, body, (v, l, other, (z, m, third, rest)))) = cc (one-deed bits i j, m)
 
 -- hput One on x, where a choice is awaited
 awaited : IsWellFormed bits [] (one Input bit) (b.Then (b.Hput (place 1 1) (ident 1 6 (codes "One")) x) (b.Halt (place 2 1) (Some x))) → ⊥

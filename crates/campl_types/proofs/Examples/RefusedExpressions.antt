@@ -59,6 +59,13 @@ no-pairs-compared (s.Variable at x) t v c i = c
 pairs-compared : (t : SeqType) → IsFoundToHave prelude [] (e.Compare (place 1 1) pair compare.Equal pair) t → ⊥
 pairs-compared t (u, comparable, i, (a, b, j, first, second), right) = no-pairs-compared u a b comparable j
 
+-- nor are lists of numbers or values of a type variable compared
+no-numbers-compared : IsComparable (s.List s.Int) → ⊥
+no-numbers-compared i = i
+
+no-variables-compared : IsComparable (s.Variable (place 1 1) (codes "a")) → ⊥
+no-variables-compared i = i
+
 -- Rows
 
 -- a function of numbers to numbers

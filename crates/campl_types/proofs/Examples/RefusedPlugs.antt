@@ -1,5 +1,5 @@
 -- Plugs and calls of processes that aren't well formed.
-use Rattle.std.proofs.Common.{◌≡◌, subst, pos, arith, List, [], ◌∷◌, Some, None, codes}
+use Rattle.std.proofs.Common.{◌≡◌, ℕ, zero, suc, subst, pos, arith, List, [], ◌∷◌, Some, None, codes}
 use Rattle.campl_tree.specs.declared.place.Ident.{Ident}
 use Rattle.campl_tree.specs.declared.service.Side.TheVariants.{Input, Output}
 use Rattle.campl_tree.specs.Plain.ChanType.{TopBot}
@@ -116,6 +116,14 @@ links-twice (count, names, divided, all) = cc names
 one-part : IsPlug links nothing_held (part (c ∷ []) (c ∷ []) b.no_parts) → ⊥
 one-part ((few, many), names, divided, all) = omega arith
 
+-- and 65 parts are too many
+abbrev parts-apart : ℕ → b.Parts
+parts-apart zero = b.no_parts
+parts-apart (suc n) = part [] [] (parts-apart n)
+
+too-many-parts : IsPlug links nothing_held (parts-apart 65) → ⊥
+too-many-parts ((few, many), names, divided, all) = omega arith
+
 -- Calls of the process `ends :: Int | TopBot =>` of Bodies
 
 abbrev w : World
@@ -158,6 +166,14 @@ as-output h = (hands output-held seven [] (k ∷ []) h).1
 -- ends( | k => )
 no-argument : IsWellFormed w [] holding (b.Call (place 1 1) (codes "ends") e.no_exprs (k ∷ []) []) → ⊥
 no-argument h = (hands holding e.no_exprs (k ∷ []) [] h).0
+
+-- ends(7, 7 | k => )
+two-arguments : IsWellFormed w [] holding (b.Call (place 1 1) (codes "ends") (e.expr_then (e.Number (place 1 6) (pos 7)) seven) (k ∷ []) []) → ⊥
+two-arguments h = (hands holding (e.expr_then (e.Number (place 1 6) (pos 7)) seven) (k ∷ []) [] h).0.1
+
+-- ends(7 | k, k => )
+handed-twice : IsWellFormed w [] holding (b.Call (place 1 1) (codes "ends") seven (k ∷ k ∷ []) []) → ⊥
+handed-twice h = (hands holding seven (k ∷ k ∷ []) [] h).1.3
 
 -- ends("7" | k => )
 text-argument : IsWellFormed w [] holding (b.Call (place 1 1) (codes "ends") (e.expr_then (e.Text (place 1 6) (codes "7")) e.no_exprs) (k ∷ []) []) → ⊥
