@@ -23,3 +23,4 @@ mod Spaces
 mod Apart
 mod Parts
 mod Lookups
+mod Headers

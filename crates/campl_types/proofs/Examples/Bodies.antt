@@ -45,6 +45,12 @@ halt c = b.Halt (place 9 9) (Some c)
 silent : IsWellFormed prelude [] nothing_held (b.Halt (place 1 1) None)
 silent v i = refl
 
+-- get _ on x
+-- halt x
+-- binds nothing
+ignores : IsWellFormed prelude [] (one Input number) (b.Then (b.Get (place 1 1) (binder.Wildcard (place 1 5)) x) (halt x))
+ignores = (_, _, _, _, refl, refl, (_, _, refl, refl, λ v i. rw (other-than (codes "x") [] v i) refl))
+
 -- split x into y, z
 -- close y
 -- halt z

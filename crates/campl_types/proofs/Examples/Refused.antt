@@ -1,5 +1,5 @@
 -- Worked sources that aren't typed.
-use Rattle.std.proofs.Common.{◌≡◌, refl, List, [], ◌∷◌, Some, codes}
+use Rattle.std.proofs.Common.{◌≡◌, refl, List, [], ◌∷◌, Some, None, codes}
 use Rattle.campl_tree.specs.declared.place.Ident.{Ident}
 use Rattle.campl_tree.specs.declared.service.Side.TheVariants.{Input, Output}
 use Rattle.campl_tree.specs.Plain.SeqType as s
@@ -119,6 +119,18 @@ wrong-action : IsTyped (d.Process puts-at-get ∷ []) → ⊥
 wrong-action h =
     no-put-is-due
     (after-hput (world_of (d.Process puts-at-get ∷ [])) [] terminal-held (place 3 9) (ident 3 14 (codes "StringTerminalGet")) t says refl refl refl h.processes.0.5)
+
+-- Rows of processes
+
+-- proc run :: | Console => where
+--     | a, b => -> ..
+two-channels : IsTyped (d.Process (runs (console ∷ []) [] (a ∷ ident 2 10 (codes "b") ∷ []) [] (b.Halt (place 3 9) None)) ∷ []) → ⊥
+two-channels h = cc h.processes.0.2
+
+-- proc run :: | Console, Console => where
+--     | a, a => -> ..
+one-name : IsTyped (d.Process (runs (console ∷ console ∷ []) [] (a ∷ a ∷ []) [] (b.Halt (place 3 9) None)) ∷ []) → ⊥
+one-name h = cc h.processes.0.0
 
 -- Functions
 
