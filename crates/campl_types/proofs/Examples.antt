@@ -24,3 +24,4 @@ mod Apart
 mod Parts
 mod Lookups
 mod Headers
+mod Tables
