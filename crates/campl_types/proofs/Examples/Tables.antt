@@ -1,5 +1,5 @@
 -- What the code's definitions say beside those of the language: spots, sets of names, the test of types.
-use Rattle.std.proofs.Common.{◌≡◌, refl, pos, List, [], ◌∷◌, true, false, codes}
+use Rattle.std.proofs.Common.{◌≡◌, refl, List, [], ◌∷◌, true, false, codes}
 use Rattle.campl_tree.specs.declared.place.Ident.{Ident}
 use Rattle.campl_tree.specs.declared.process.Binder.TheVariants as binder
 use Rattle.campl_tree.specs.Plain.SeqType as s
