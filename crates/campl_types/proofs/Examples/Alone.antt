@@ -20,6 +20,12 @@ pub newest : (b : Bool) (c d e : Option Channel) → (if b then c else (if b the
 newest true c d e = refl
 newest false c d e = refl
 
+-- also behind another
+pub newest-behind : (b p : Bool) (c d e f : Option Channel) → (if b then c else (if p then d else (if b then e else f))) ≡ (if b then c else (if p then d else f))
+newest-behind true p c d e f = refl
+newest-behind false true c d e f = refl
+newest-behind false false c d e f = refl
+
 -- and what was given up isn't held
 pub given-up : (b : Bool) → ◌≡◌ {A = Option Channel} (if b then None else None) None
 given-up true = refl

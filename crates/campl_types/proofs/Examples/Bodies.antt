@@ -5,7 +5,7 @@ use Rattle.campl_tree.specs.declared.process.Binder.TheVariants as binder
 use Rattle.campl_tree.specs.declared.service.Side.{Side}
 use Rattle.campl_tree.specs.declared.service.Side.TheVariants.{Input, Output}
 use Rattle.campl_tree.specs.Plain.SeqType as s
-use Rattle.campl_tree.specs.Plain.ChanType.{ChanType, Put, Par, TopBot, Neg}
+use Rattle.campl_tree.specs.Plain.ChanType.{ChanType, Put, Tensor, Par, TopBot, Neg}
 use Rattle.campl_tree.specs.Plain.Pattern as p
 use Rattle.campl_tree.specs.Plain.Expr as e
 use Rattle.campl_tree.specs.Plain.Process as b
@@ -18,7 +18,7 @@ use Rattle.campl_types.specs.Held.{On, Held, nothing_held, with, HasNoVariables,
 use Rattle.campl_types.specs.Linear.{IsWellFormed, ProcessIsTyped, row_channels}
 use Rattle.campl_types.specs.Typed.{IsTyped}
 use Rattle.campl_types.proofs.Examples.Sources.{place, ident, protocol, protocol_decl, line, silent_run}
-use Rattle.campl_types.proofs.Examples.Alone.{other-than, not-in-rest, newest, given-up}
+use Rattle.campl_types.proofs.Examples.Alone.{other-than, not-in-rest, newest, newest-behind, given-up}
 
 abbrev x : Ident
 x = ident 1 1 (codes "x")
@@ -118,6 +118,55 @@ raced = (
     (
       refl,
       (_, _, _, _, refl, refl, (_, _, refl, refl, (_, _, _, _, refl, refl, (_, _, refl, refl, λ v i. simp (other-than (codes "x") [] v i, newest, given-up))))),
+      tt,
+    ),
+  ),
+)
+
+-- protocol Door => S where
+--     Open :: TopBot => S
+abbrev doors : World
+doors =
+    world_of
+    (protocol_decl 1 (ident 1 10 (codes "Door")) [] (ident 1 18 (codes "S"))
+    (line (ident 2 5 (codes "Open")) TopBot (ident 2 23 (codes "S")) ∷ [])
+    ∷ [])
+
+-- race
+--     x -> hcase x of
+--         Open -> do
+--             close x
+--             split y into y, z
+--             close y
+--             halt z
+--     y -> do
+--         split y into y, z
+--         close y
+--         close z
+--         hcase x of
+--             Open -> halt x
+abbrev opens : b.Body → b.Body
+opens body = b.Hcase (place 2 10) x (b.hcase_row_then (ident 3 9 (codes "Open")) body b.no_hcase_rows)
+
+abbrev splits-y : b.Body → b.Body
+splits-y rest = b.Then (b.Split (place 5 13) y y z) (b.Then (b.Close (place 6 13) y) rest)
+
+abbrev door-first : b.Branches → b.Branches
+door-first = b.branch_then x (opens (b.Then (b.Close (place 4 13) x) (splits-y (halt z))))
+
+abbrev pair-first : b.Branches → b.Branches
+pair-first = b.branch_then y (splits-y (b.Then (b.Close (place 11 9) z) (opens (halt x))))
+
+raced-at-choices : IsWellFormed doors [] (two Input (protocol 1 9 (codes "Door")) Input (Tensor TopBot TopBot)) (b.Race (place 1 1) (door-first (pair-first b.no_branches)))
+raced-at-choices = (
+  (omega arith, omega arith),
+  refl,
+  (
+    refl,
+    (_, _, _, refl, refl, (refl, refl), (_, refl, (_, _, refl, refl, (_, _, _, _, refl, refl, (refl, refl, refl), (_, _, refl, refl, (_, _, refl, refl, λ v i. simp (other-than (codes "z") [] v i, newest, newest-behind, given-up))))), tt)),
+    (
+      refl,
+      (_, _, _, _, refl, refl, (refl, refl, refl), (_, _, refl, refl, (_, _, refl, refl, (_, _, _, refl, refl, (refl, refl), (_, refl, (_, _, refl, refl, λ v i. simp (other-than (codes "x") [] v i, newest, newest-behind, given-up)), tt))))),
       tt,
     ),
   ),
