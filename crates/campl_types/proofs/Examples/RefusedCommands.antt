@@ -13,6 +13,7 @@ use Rattle.campl_types.specs.SameType.{bare}
 use Rattle.campl_types.specs.Missing.{missing}
 use Rattle.campl_types.specs.Sequential.{HasType, Checked}
 use Rattle.campl_tree.specs.Plain.Process as b
+use Rattle.campl_types.specs.Fits.{Vars}
 use Rattle.campl_types.specs.World.{World, world_of}
 use Rattle.campl_types.specs.Prelude.{prelude}
 use Rattle.campl_types.specs.Held.{Channel, On, Held, nothing_held, with}
@@ -38,6 +39,22 @@ abbrev number : ChanType
 number = Put s.Int TopBot
 
 -- Actions
+
+-- the channel that an action uses
+abbrev channel-of : b.Action → Ident
+channel-of (b.Put at a c) = c
+channel-of (b.Get at v c) = c
+channel-of (b.Hput at k c) = c
+channel-of (b.Split at c y z) = c
+channel-of (b.Close at c) = c
+
+-- no action uses what isn't held
+unheld : (w : World) (vs : Vars) (held : Held) (a : b.Action) (rest : b.Body) → held (channel-of a).name ≡ None → IsWellFormed w vs held (b.Then a rest) → ⊥
+unheld w vs held (b.Put at a c) rest h (r, u, t, v, i, j, value, more) = cc (h, i)
+unheld w vs held (b.Get at n c) rest h (r, u, t, v, i, j, more) = cc (h, i)
+unheld w vs held (b.Hput at k c) rest h (r, u, cs, v, i, j, l, more) = cc (h, i)
+unheld w vs held (b.Split at c y z) rest h (r, u, t, v, i, j, new, more) = cc (h, i)
+unheld w vs held (b.Close at c) rest h (r, u, i, j, more) = cc (h, i)
 
 -- put 'a' on x, where a number is due
 other-value : IsWellFormed prelude [] (one Output number) (b.Then (b.Put (place 1 1) (e.Character (place 1 5) 97) x) (b.Halt (place 2 1) (Some x))) → ⊥
