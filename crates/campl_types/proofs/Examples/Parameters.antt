@@ -19,16 +19,16 @@ use Rattle.campl_types.specs.Sequential.{IsFoundToHave, MayBeChecked, FunctionIs
 use Rattle.campl_types.specs.Substitution.{filling}
 use Rattle.campl_types.proofs.Examples.Sources.{place, ident, data_decl, constructor}
 
-abbrev a : SeqType
+abbrev pub a : SeqType
 a = s.Variable (place 1 1) (codes "a")
 
-abbrev maybe : SeqType → SeqType
+abbrev pub maybe : SeqType → SeqType
 maybe t = s.Named (place 1 1) (codes "Maybe") (s.type_then t s.no_types)
 
 abbrev row : p.Pattern → e.Expr → d.FunctionRow
 row pattern value = record { place = place 5 5; patterns = p.pattern_then pattern p.no_patterns; value = value }
 
-abbrev first : d.FunctionDecl
+abbrev pub first : d.FunctionDecl
 first =
     record {
       place = place 4 1;
@@ -40,7 +40,7 @@ first =
           ∷ [];
     }
 
-abbrev size : d.FunctionDecl
+abbrev pub size : d.FunctionDecl
 size =
     record {
       place = place 7 1;
@@ -50,7 +50,7 @@ size =
       rows = row (p.Wildcard (place 8 5)) (e.Number (place 8 10) (pos 0)) ∷ [];
     }
 
-abbrev w : World
+abbrev pub w : World
 w =
     world_of
     (data_decl 1 (ident 1 6 (codes "Maybe")) (ident 1 12 (codes "a") ∷ []) (constructor (ident 2 5 (codes "None")) [] ∷ constructor (ident 3 5 (codes "Just")) (a ∷ []) ∷ [])
@@ -72,7 +72,7 @@ first-is-typed = (
 )
 
 -- first([1]) is found to be a Maybe(Int): the list is found
-abbrev first-of-one : e.Expr
+abbrev pub first-of-one : e.Expr
 first-of-one = e.Call (place 9 1) (codes "first") (e.expr_then (e.List (place 9 7) (e.expr_then (e.Number (place 9 8) (pos 1)) e.no_exprs)) e.no_exprs)
 
 first-found : IsFoundToHave w [] first-of-one (maybe s.Int)

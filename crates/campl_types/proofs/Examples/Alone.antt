@@ -1,0 +1,40 @@
+-- That nothing is held but certain channels: `simp` shows it with these, once for each name.
+use Rattle.std.proofs.Common.{◌≡◌, ◌∙◌, ◌⊎◌, inl, inr, refl, sym, subst, Bool, true, false, ◌||◌, List, ◌∷◌, Option, None, if◌then◌else◌}
+use Rattle.campl_types.specs.Names.{Name, same_name, is_among}
+use Rattle.campl_types.specs.Held.{Channel, Held, without, HoldsOnly}
+use Rattle.campl_types.proofs.Names.{same-itself, same-turned, split-names}
+
+neither : (p q : Bool) → (p || q) ≡ false → (p ≡ false) × (q ≡ false)
+neither false q i = (refl, i)
+neither true q i = absurd (cc i)
+
+-- a name that isn't among some is another than the first, and not among the rest
+pub other-than : (x : Name) (xs : List Name) (y : Name) → is_among y (x ∷ xs) ≡ false → same_name x y ≡ false
+other-than x xs y i = same-turned x y ∙ (neither (same_name y x) (is_among y xs) i).0
+
+pub not-in-rest : (x : Name) (xs : List Name) (y : Name) → is_among y (x ∷ xs) ≡ false → is_among y xs ≡ false
+not-in-rest x xs y i = (neither (same_name y x) (is_among y xs) i).1
+
+-- of a name only the newest counts
+pub newest : (b : Bool) (c d e : Option Channel) → (if b then c else (if b then d else e)) ≡ (if b then c else e)
+newest true c d e = refl
+newest false c d e = refl
+
+-- also behind another
+pub newest-behind : (b p : Bool) (c d e f : Option Channel) → (if b then c else (if p then d else (if b then e else f))) ≡ (if b then c else (if p then d else f))
+newest-behind true p c d e f = refl
+newest-behind false true c d e f = refl
+newest-behind false false c d e f = refl
+
+-- and what was given up isn't held
+pub given-up : (b : Bool) → ◌≡◌ {A = Option Channel} (if b then None else None) None
+given-up true = refl
+given-up false = refl
+
+-- where one of the names is given up, nothing is held but under the others
+pub others-alone : (x : Name) (xs : List Name) (held : Held) → HoldsOnly (x ∷ xs) held → HoldsOnly xs (without x held)
+others-alone x xs held alone y i = go (split-names y x)
+  where
+    go : (y ≡ x) ⊎ (same_name y x ≡ false) → without x held y ≡ None
+    go (inl e) = subst (λ z. without x held z ≡ None) (sym e) (rw (same-itself x) refl)
+    go (inr other) = let turned : same_name x y ≡ false = same-turned x y ∙ other in rw turned (alone y (rw other i))
