@@ -156,7 +156,7 @@ abbrev mutual
   pub CasesAreWellFormed : World → Vars → Held → SeqType → CaseRows → Type 0
   CasesAreWellFormed w vs held t b.no_case_rows = Unit {0}
   CasesAreWellFormed w vs held t (b.case_row_then p body rows) =
-      (xs : Vars) × (fits w (form_of p) t ≡ Some xs) × IsTrue (are_distinct (bound_in p))
+      (xs : Vars) × (fits w p t ≡ Some xs) × IsTrue (are_distinct (bound_in p))
       × IsWellFormed w (xs ++ vs) held body × CasesAreWellFormed w vs held t rows
 
   -- the parts of a plug, each with its share

@@ -129,7 +129,7 @@ abbrev mutual
   pub RowsHaveType : Way → World → Vars → ExprRows → SeqType → SeqType → Type 0
   RowsHaveType way w vs e.no_expr_rows u t = Unit {0}
   RowsHaveType way w vs (e.expr_row_then p a rows) u t =
-      (xs : Vars) × (fits w (form_of p) u ≡ Some xs) × IsTrue (are_distinct (bound_in p))
+      (xs : Vars) × (fits w p u ≡ Some xs) × IsTrue (are_distinct (bound_in p))
       × HasType way w (xs ++ vs) a t × RowsHaveType Checked w vs rows u t
 
 abbrev pub IsFoundToHave : World → Vars → Expr → SeqType → Type 0
@@ -143,7 +143,7 @@ MayBeChecked w vs a t = HasType Checked w vs a t
 -- a row has a pattern for each parameter, which bind different names, and a value of the result's type
 abbrev pub RowIsTyped : World → FunctionDecl → FunctionRow → Type 0
 RowIsTyped w f r =
-    (xs : Vars) × (all_fit w (part_forms r.patterns) f.parameters ≡ Some xs) × IsTrue (are_distinct (bound_in_all r.patterns))
+    (xs : Vars) × (all_fit w r.patterns f.parameters ≡ Some xs) × IsTrue (are_distinct (bound_in_all r.patterns))
     × HasType Checked w xs r.value f.result
 
 abbrev RowsAreTyped : World → FunctionDecl → List FunctionRow → Type 0

@@ -15,7 +15,6 @@ use Rattle.campl_types.specs.Names.{Name, same_name, is_among, are_distinct, fou
 use Rattle.campl_types.specs.World.{World, names_of, process_named}
 use Rattle.campl_types.specs.Polarity.{Forks, Offers, Choices, deed}
 use Rattle.campl_types.specs.Patterns.{bound_in, bound_by_all}
-use Rattle.campl_types.specs.Forms.{form_of}
 use Rattle.campl_types.specs.Fits.{Vars, fits}
 use Rattle.campl_types.specs.Sequential.{HasType, Found, PartsHaveTypes, AreExhaustive}
 use Rattle.campl_types.specs.Held.{On, Held, with, without, only}
@@ -115,7 +114,7 @@ pub no-cases : {w : World} {vs : Vars} {names : List Name} {held : Held} {t : Se
 no-cases = record { well-formed = λ h. tt }
 
 pub when : {w : World} {vs : Vars} {names : List Name} {held : Held} {t : SeqType} {p : Pattern} {body : Body} {rows : CaseRows} {xs : Vars}
-    → fits w (form_of p) t ≡ Some xs → IsTrue (are_distinct (bound_in p)) → Flows w (xs ++ vs) names held body → CasesFlow w vs names held t rows
+    → fits w p t ≡ Some xs → IsTrue (are_distinct (bound_in p)) → Flows w (xs ++ vs) names held body → CasesFlow w vs names held t rows
     → CasesFlow w vs names held t (b.case_row_then p body rows)
 when i distinct first next = record { well-formed = λ h. (_, i, distinct, first.well-formed h, next.well-formed h) }
 

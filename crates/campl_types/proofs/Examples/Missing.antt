@@ -24,10 +24,10 @@ text-form : form_of (p.Text (place 1 1) (codes "a")) ≡ Cons (Character 97) Nil
 text-form = refl
 
 -- Just(x) at Maybe(Int)
-just-fits : fits maybe (Built (codes "Just") (more (Variable (codes "x")) none)) maybe_int ≡ Some ((codes "x", s.Int) ∷ [])
+just-fits : fits maybe (p.Constructor (place 1 1) (codes "Just") (p.pattern_then (p.Variable (place 1 6) (codes "x")) p.no_patterns)) maybe_int ≡ Some ((codes "x", s.Int) ∷ [])
 just-fits = refl
 
-just-is-no-int : fits maybe (Built (codes "Just") (more (Variable (codes "x")) none)) s.Int ≡ None
+just-is-no-int : fits maybe (p.Constructor (place 1 1) (codes "Just") (p.pattern_then (p.Variable (place 1 6) (codes "x")) p.no_patterns)) s.Int ≡ None
 just-is-no-int = refl
 
 just-matches : matched maybe (Built (codes "Just") (more (Variable (codes "x")) none)) (v.Built 1 (v.more (v.Int (pos 3)) v.none)) ≡ Some ((codes "x", v.Int (pos 3)) ∷ [])

@@ -1,10 +1,11 @@
--- The form of each pattern, the types that each form fits, and the values that it matches.
+-- The form of each pattern, the types that each pattern fits, and the values that each form matches.
 use Rattle.std.proofs.Common.{◌≡◌, refl, pos, negsuc, [], ◌∷◌, Some, None, true, false, codes}
 use Rattle.campl_tree.specs.Plain.SeqType as s
 use Rattle.campl_tree.specs.Plain.Pattern as p
 use Rattle.campl_value.specs.Tree as v
 use Rattle.campl_types.specs.Forms.{Form, Anything, Variable, Number, Character, Truth, Nil, Cons, Pair, Built, none, more, form_of}
 use Rattle.campl_types.specs.Fits.{fits, all_fit}
+use Rattle.campl_types.specs.Names.{Name}
 use Rattle.campl_types.specs.Matching.{matched, row_matched, first_match}
 use Rattle.campl_types.specs.Prelude.{prelude}
 use Rattle.campl_types.specs.World.{World, world_of}
@@ -53,36 +54,63 @@ empty-text = refl
 
 -- Types
 
-anything-fits : fits prelude Anything (s.List s.Bool) ≡ Some []
-anything-fits = refl
+abbrev seven : p.Pattern
+seven = p.Number (place 1 1) (pos 7)
 
-number-fits : (fits prelude (Number (pos 7)) s.Int ≡ Some []) × (fits prelude (Number (pos 7)) s.Char ≡ None)
+abbrev x : p.Pattern
+x = p.Variable (place 1 1) (codes "x")
+
+abbrev y : p.Pattern
+y = p.Variable (place 1 5) (codes "y")
+
+abbrev nil : p.Pattern
+nil = p.List (place 1 1) p.no_patterns
+
+-- so many patterns
+abbrev one_pattern : p.Pattern → p.Patterns
+one_pattern q = p.pattern_then q p.no_patterns
+
+abbrev two_patterns : p.Pattern → p.Pattern → p.Patterns
+two_patterns q r = p.pattern_then q (one_pattern r)
+
+wildcard-fits : fits prelude (p.Wildcard (place 1 1)) (s.List s.Bool) ≡ Some []
+wildcard-fits = refl
+
+number-fits : (fits prelude seven s.Int ≡ Some []) × (fits prelude seven s.Char ≡ None)
 number-fits = (refl, refl)
 
-character-fits : (fits prelude (Character 120) s.Char ≡ Some []) × (fits prelude (Character 120) (s.List s.Char) ≡ None)
+negative-fits : (fits prelude (p.Negative (place 1 1) (pos 7)) s.Int ≡ Some []) × (fits prelude (p.Negative (place 1 1) (pos 7)) s.Bool ≡ None)
+negative-fits = (refl, refl)
+
+character-fits : (fits prelude (p.Character (place 1 1) 120) s.Char ≡ Some []) × (fits prelude (p.Character (place 1 1) 120) (s.List s.Char) ≡ None)
 character-fits = (refl, refl)
 
-truth-fits : fits prelude (Truth true) s.Bool ≡ Some []
-truth-fits = refl
+-- a text fits [Char] alone, the empty one too
+text-fits : (fits prelude (p.Text (place 1 1) (codes "a")) (s.List s.Char) ≡ Some []) × (fits prelude (p.Text (place 1 1) []) (s.List s.Char) ≡ Some [])
+text-fits = (refl, refl)
 
-nil-fits : (fits prelude Nil (s.List s.Int) ≡ Some []) × (fits prelude Nil s.Int ≡ None)
+empty-text-is-of-characters : fits prelude (p.Text (place 1 1) []) (s.List s.Int) ≡ None
+empty-text-is-of-characters = refl
+
+truth-fits : (fits prelude (p.True (place 1 1)) s.Bool ≡ Some []) × (fits prelude (p.False (place 1 1)) s.Int ≡ None)
+truth-fits = (refl, refl)
+
+nil-fits : (fits prelude nil (s.List s.Int) ≡ Some []) × (fits prelude nil s.Int ≡ None)
 nil-fits = (refl, refl)
 
-abbrev one : Form
-one = Variable (codes "x")
-
-abbrev two : Form
-two = Variable (codes "y")
+-- [x, 7]
+list-fits : (fits prelude (p.List (place 1 1) (two_patterns x seven)) (s.List s.Int) ≡ Some ((codes "x", s.Int) ∷ [])) × (fits prelude (p.List (place 1 1) (two_patterns x seven)) (s.List s.Char) ≡ None)
+list-fits = (refl, refl)
 
 -- x : y at [Int]: what stands on the right is newer
-cons-fits : fits prelude (Cons one two) (s.List s.Int) ≡ Some ((codes "y", s.List s.Int) ∷ (codes "x", s.Int) ∷ [])
+cons-fits : fits prelude (p.Cons (place 1 1) x y) (s.List s.Int) ≡ Some ((codes "y", s.List s.Int) ∷ (codes "x", s.Int) ∷ [])
 cons-fits = refl
 
-pair-fits : fits prelude (Pair one two) (s.Pair s.Int s.Char) ≡ Some ((codes "y", s.Char) ∷ (codes "x", s.Int) ∷ [])
+pair-fits : fits prelude (p.Pair (place 1 1) x y) (s.Pair s.Int s.Char) ≡ Some ((codes "y", s.Char) ∷ (codes "x", s.Int) ∷ [])
 pair-fits = refl
 
 -- a literal fits no type variable, and a variable does
-variable-alone : (fits prelude one (s.Variable (place 1 1) (codes "a")) ≡ Some ((codes "x", s.Variable (place 1 1) (codes "a")) ∷ [])) × (fits prelude (Number (pos 7)) (s.Variable (place 1 1) (codes "a")) ≡ None)
+variable-alone : (fits prelude x (s.Variable (place 1 1) (codes "a")) ≡ Some ((codes "x", s.Variable (place 1 1) (codes "a")) ∷ [])) × (fits prelude seven (s.Variable (place 1 1) (codes "a")) ≡ None)
 variable-alone = (refl, refl)
 
 -- data Shape where
@@ -100,30 +128,40 @@ shapes =
 abbrev shape : s.SeqType
 shape = named 6 1 (codes "Shape")
 
-bar-fits : fits shapes (Built (codes "Bar") (more one (more two none))) shape ≡ Some ((codes "y", s.Bool) ∷ (codes "x", s.Int) ∷ [])
+-- a constructor with these parts
+abbrev constructed : Name → p.Patterns → p.Pattern
+constructed k ps = p.Constructor (place 1 1) k ps
+
+bar-fits : fits shapes (constructed (codes "Bar") (two_patterns x y)) shape ≡ Some ((codes "y", s.Bool) ∷ (codes "x", s.Int) ∷ [])
 bar-fits = refl
 
 -- with too few parts, with too many, of another type, of no type, and of a protocol
-bar-of-one : fits shapes (Built (codes "Bar") (more one none)) shape ≡ None
+bar-of-one : fits shapes (constructed (codes "Bar") (one_pattern x)) shape ≡ None
 bar-of-one = refl
 
-dot-of-one : fits shapes (Built (codes "Dot") (more one none)) shape ≡ None
+dot-of-one : fits shapes (constructed (codes "Dot") (one_pattern x)) shape ≡ None
 dot-of-one = refl
 
-other-constructor : fits shapes (Built (codes "Only") none) shape ≡ None
+other-constructor : fits shapes (constructed (codes "Only") p.no_patterns) shape ≡ None
 other-constructor = refl
 
-unknown-constructor : fits shapes (Built (codes "Nothing") none) shape ≡ None
+unknown-constructor : fits shapes (constructed (codes "Nothing") p.no_patterns) shape ≡ None
 unknown-constructor = refl
 
-protocol's-constructor : fits shapes (Built (codes "ConsoleClose") none) shape ≡ None
+protocol's-constructor : fits shapes (constructed (codes "ConsoleClose") p.no_patterns) shape ≡ None
 protocol's-constructor = refl
 
 -- a row of patterns for two types
-row-fits : (all_fit prelude (more one (more Nil none)) (s.Int ∷ s.List s.Int ∷ []) ≡ Some ((codes "x", s.Int) ∷ [])) × (all_fit prelude (more one none) (s.Int ∷ s.Int ∷ []) ≡ None)
+row-fits : (all_fit prelude (two_patterns x nil) (s.Int ∷ s.List s.Int ∷ []) ≡ Some ((codes "x", s.Int) ∷ [])) × (all_fit prelude (one_pattern x) (s.Int ∷ s.Int ∷ []) ≡ None)
 row-fits = (refl, refl)
 
 -- Values
+
+abbrev one : Form
+one = Variable (codes "x")
+
+abbrev two : Form
+two = Variable (codes "y")
 
 number-matches : (matched prelude (Number (negsuc 6)) (v.Int (negsuc 6)) ≡ Some []) × (matched prelude (Number (pos 7)) (v.Int (negsuc 6)) ≡ None)
 number-matches = (refl, refl)
