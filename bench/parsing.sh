@@ -11,12 +11,16 @@ trap 'rm -rf "$work"' EXIT
 
 # Functions and processes up to 1 MiB.
 awk 'BEGIN {
+    text = "fun g :: Int, [Char] -> [(Int, a)] where\n    _, _ -> []\nfun h :: Char -> (Int, a) where\n    c -> h(c)\n" \
+        "fun show :: Int -> [Char] where\n    _ -> []\n"
+    size = length(text)
+    printf "%s", text
     for (i = 0; size < 1048200; i++) {
         text = "fun f" i " :: Int, [a] -> [(Int, a)] where\n    0, x : _ -> (1 + 2 * -3, x) : []\n" \
             "    n, _ -> if n < 10 && n /= 3 then g(n - 1, \"text\") else case n of\n        7 -> [h(\047c\047)]\n" \
             "proc p" i " :: Int | Console => Put(Int | TopBot) where\n    n | c => o -> do\n        hput ConsolePut on c\n" \
             "        put \"a text\" ++ show(n) on c\n        case n of\n            0 -> do\n                close c\n" \
-            "                halt o\n            _ -> p(n - 1 | c => o)\n"
+            "                halt o\n            _ -> p" i "(n - 1 | c => o)\n"
         size += length(text)
         if (size < 1048200) printf "%s", text
     }
