@@ -6,3 +6,4 @@ mod Missing
 mod Typed
 mod Parameters
 mod Plugs
+mod Free
