@@ -23,4 +23,7 @@ pub mod Turned
 pub mod Instances
 pub mod Missing
 pub mod MissingUnfolds
+mod FreeCommands
+mod FreeParts
+pub mod FreeNames
 mod Examples

@@ -37,12 +37,12 @@ channels_bound (b.Close at x) = []
 abbrev mutual
   -- whether a name is free in a body
   pub is_free : Name → Body → Bool
-  is_free n (b.Then a rest) = same_name n (channel_of a) || not (is_among n (channels_bound a)) && is_free n rest
+  is_free n (b.Then a rest) = same_name n (channel_of a) || (not (is_among n (channels_bound a)) && is_free n rest)
   is_free n (b.Halt at None) = false
   is_free n (b.Halt at (Some x)) = same_name n x.name
   is_free n (b.Hcase at x rows) = same_name n x.name || is_free_in_rows n rows
   is_free n (b.Fork at x y left z right) =
-      same_name n x.name || not (same_name n y.name) && is_free n left || not (same_name n z.name) && is_free n right
+      same_name n x.name || ((not (same_name n y.name) && is_free n left) || (not (same_name n z.name) && is_free n right))
   is_free n (b.Plug at links parts) = not (is_among n (link_names links)) && is_free_in_parts n parts
   is_free n (b.Race at rows) = is_free_in_branches n rows
   is_free n (b.Case at a rows) = is_free_in_cases n rows
@@ -57,7 +57,7 @@ abbrev mutual
   -- whether it is free in a branch of `race`, which names its channel
   pub is_free_in_branches : Name → Branches → Bool
   is_free_in_branches n b.no_branches = false
-  is_free_in_branches n (b.branch_then x body rows) = same_name n x.name || is_free n body || is_free_in_branches n rows
+  is_free_in_branches n (b.branch_then x body rows) = same_name n x.name || (is_free n body || is_free_in_branches n rows)
 
   -- whether it is free in a row of `case`
   pub is_free_in_cases : Name → CaseRows → Bool
@@ -68,7 +68,7 @@ abbrev mutual
   pub is_free_in_parts : Name → Parts → Bool
   is_free_in_parts n b.no_parts = false
   is_free_in_parts n (b.part_then header body parts) =
-      is_among n (names_of header.inputs) || is_among n (names_of header.outputs) || is_free n body || is_free_in_parts n parts
+      is_among n (names_of header.inputs) || (is_among n (names_of header.outputs) || (is_free n body || is_free_in_parts n parts))
 
 -- Worlds in which an `hcase` has a row
 
