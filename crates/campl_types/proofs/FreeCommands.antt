@@ -35,7 +35,7 @@ neither false false f = refl
 
 -- Names that are held
 
-passed : (held : Held) (n x : Name) (o : Option Channel) → same_name n x ≡ false → with x o held n ≡ held n
+pub passed : (held : Held) (n x : Name) (o : Option Channel) → same_name n x ≡ false → with x o held n ≡ held n
 passed held n x o i = let turned : same_name x n ≡ false = same-turned x n ∙ i in rw turned refl
 
 as-held : (held : Held) (n x : Name) {o : Option Channel} → held x ≡ o → same_name n x ≡ true → is_some o ≡ is_some (held n)

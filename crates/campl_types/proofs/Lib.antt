@@ -26,4 +26,5 @@ pub mod MissingUnfolds
 mod FreeCommands
 mod FreeParts
 pub mod FreeNames
+pub mod Forked
 mod Examples

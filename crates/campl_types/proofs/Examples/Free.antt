@@ -1,10 +1,15 @@
 -- Worked free names.
 use Rattle.std.proofs.Common.{◌≡◌, refl, true, false, [], ◌∷◌, Some, codes}
 use Rattle.campl_tree.specs.declared.place.Ident.{Ident}
+use Rattle.campl_tree.specs.declared.service.Side.TheVariants.{Input}
 use Rattle.campl_tree.specs.Plain.ChanType.{TopBot}
 use Rattle.campl_tree.specs.Plain.Process as b
-use Rattle.campl_types.specs.Free.{is_free}
-use Rattle.campl_types.proofs.Examples.Sources.{place, ident}
+use Rattle.campl_types.specs.Prelude.{prelude}
+use Rattle.campl_types.specs.World.{World}
+use Rattle.campl_types.specs.Held.{Held, On, nothing_held, with}
+use Rattle.campl_types.specs.Linear.{IsWellFormed}
+use Rattle.campl_types.specs.Free.{is_free, all_have_constructors}
+use Rattle.campl_types.proofs.Examples.Sources.{place, ident, protocol, protocol_decl}
 
 abbrev a : Ident
 a = ident 1 1 (codes "a")
@@ -72,3 +77,26 @@ fork-binds-a = refl
 -- q is bound in the second body, and free in the first
 fork-binds-q-in-one : is_free (codes "q") forks ≡ true
 fork-binds-q-in-one = refl
+
+-- each protocol of the prelude has a constructor
+prelude-has : all_have_constructors prelude ≡ true
+prelude-has = refl
+
+-- a protocol without constructors, and one who takes a choice of none while he holds q
+empty : World
+empty = protocol_decl 1 (ident 1 10 (codes "Never")) [] (ident 1 19 (codes "S")) [] ∷ []
+
+holds-more : Held
+holds-more = with (codes "p") (Some (On Input (protocol 1 1 (codes "Never")))) (with (codes "q") (Some (On Input TopBot)) nothing_held)
+
+-- so the premise of the law is needed: this body is well formed, holds q, and doesn't name it
+takes-nothing : IsWellFormed empty [] holds-more (b.Hcase (place 2 1) p b.no_hcase_rows)
+unfolding empty holds-more
+takes-nothing = (_, _, _, refl, refl, (refl, refl), tt)
+
+holds-q : holds-more (codes "q") ≡ Some (On Input TopBot)
+unfolding holds-more
+holds-q = refl
+
+names-no-q : is_free (codes "q") (b.Hcase (place 2 1) p b.no_hcase_rows) ≡ false
+names-no-q = refl
