@@ -40,8 +40,8 @@ keeps-free w some vs held x y left z right keep d n c i =
     let others : Held = without x.name held in
     sym
     (names-held w some vs (with y.name (Some (On d.0 d.2)) (only keep others)) left d.7 n
-        ∙ ap is_some (passed (only keep others) n y.name (Some (On d.0 d.2)) (differ others n y.name c d.6.0 i))
-        ∙ kept-is-some keep others n c i)
+    ∙ ap is_some (passed (only keep others) n y.name (Some (On d.0 d.2)) (differ others n y.name c d.6.0 i))
+    ∙ kept-is-some keep others n c i)
 
 -- tests that agree on what is held keep the same
 same-kept : (keep test : Name → Bool) (held : Held) → ((n : Name) (c : Channel) → held n ≡ Some c → keep n ≡ test n) → only keep held ≡ only test held
@@ -57,13 +57,22 @@ divided-by-names w some vs held x y left z right keep d =
     let others : Held = without x.name held in
     let free : ((n : Name) (c : Channel) → others n ≡ Some c → keep n ≡ is_free n left) = keeps-free w some vs held x y left z right keep d in
     let first = same-kept keep (λ n. is_free n left) others free in
-    let second = same-kept (λ n. not (keep n)) (λ n. not (is_free n left)) others (λ n c i. ap not (free n c i)) in
-    (d.0, d.1, d.2, d.3, d.4, d.5, d.6, subst (λ h. IsWellFormed w vs (with y.name (Some (On d.0 d.2)) h) left) first d.7,
-    subst (λ h. IsWellFormed w vs (with z.name (Some (On d.0 d.3)) h) right) second d.8)
+    let second = same-kept (λ n. not (keep n)) (λ n. not (is_free n left)) others (λ n c i. ap not (free n c i)) in (
+      d.0,
+      d.1,
+      d.2,
+      d.3,
+      d.4,
+      d.5,
+      d.6,
+      subst (λ h. IsWellFormed w vs (with y.name (Some (On d.0 d.2)) h) left) first d.7,
+      subst (λ h. IsWellFormed w vs (with z.name (Some (On d.0 d.3)) h) right) second d.8,
+    )
 
 -- a fork is well formed exactly by the division by free names
 pub forks-by-names : (w : World) → IsTrue (all_have_constructors w) → (vs : Vars) (held : Held) (at : Place) (x y : Ident) (left : Body) (z : Ident) (right : Body)
     → IsWellFormed w vs held (b.Fork at x y left z right) ↔ IsDividedByNames w vs held x y left z right
-forks-by-names w some vs held at x y left z right =
-    (λ d. divided-by-names w some vs held x y left z right d.4 (d.0, d.1, d.2, d.3, d.5, d.6, d.7, d.8, d.9),
-    λ d. (d.0, d.1, d.2, d.3, λ n. is_free n left, d.4, d.5, d.6, d.7, d.8))
+forks-by-names w some vs held at x y left z right = (
+  λ d. divided-by-names w some vs held x y left z right d.4 (d.0, d.1, d.2, d.3, d.5, d.6, d.7, d.8, d.9),
+  λ d. (d.0, d.1, d.2, d.3, λ n. is_free n left, d.4, d.5, d.6, d.7, d.8),
+)

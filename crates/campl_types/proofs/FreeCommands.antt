@@ -1,6 +1,7 @@
 -- What a command names and binds, against what is held before it and behind it. `f` says whether the name n
 -- is free in what follows.
 use Rattle.std.proofs.Common.{◌≡◌, ◌∙◌, refl, sym, ap, Bool, true, false, not, ◌&&◌, ◌||◌, if◌then◌else◌, List, [], ◌∷◌, ◌++◌, Option, Some, None, is_some, true≢false}
+use Rattle.std.proofs.Math.Bool.{or-false}
 use Rattle.campl_tree.specs.declared.place.Ident.{Ident}
 use Rattle.campl_tree.specs.declared.service.Side.{Side}
 use Rattle.campl_tree.specs.Plain.ChanType.{ChanType}
@@ -8,21 +9,13 @@ use Rattle.campl_tree.specs.Plain.Process as b
 use Rattle.campl_tree.specs.Plain.Process.{Body}
 use Rattle.campl_types.specs.Names.{Name, same_name, is_among}
 use Rattle.campl_types.specs.World.{names_of}
-use Rattle.campl_types.specs.Held.{Channel, On, Held, with, without, only, HoldsOnly}
+use Rattle.campl_types.specs.Held.{Channel, Held, with, without, only, HoldsOnly}
 use Rattle.campl_types.specs.Linear.{AreNew, AreHanded, receives_on}
 use Rattle.campl_types.specs.Free.{is_free}
 use Rattle.campl_types.proofs.Names.{same-is, same-turned}
-use Rattle.campl_types.proofs.Scopes.{among-append}
+use Rattle.campl_types.proofs.Scopes.{or-assoc, among-append}
 
 -- Truth values
-
-or-false : (a : Bool) → (a || false) ≡ a
-or-false true = refl
-or-false false = refl
-
-or-bracket : (a b c : Bool) → (a || (b || c)) ≡ ((a || b) || c)
-or-bracket true b c = refl
-or-bracket false b c = refl
 
 or-again : (a b : Bool) → (a || (a || b)) ≡ (a || b)
 or-again true b = refl
@@ -59,7 +52,7 @@ pub named-again : (held : Held) (n x : Name) {c : Channel} (f : Bool) → held x
 named-again held n x f i j = named-or held n x f i (λ k. j)
 
 -- the name x is bound in what follows
-pub bound : (held : Held) (n x : Name) (o : Option Channel) (f : Bool) → held x ≡ None → f ≡ is_some (with x o held n)
+bound : (held : Held) (n x : Name) (o : Option Channel) (f : Bool) → held x ≡ None → f ≡ is_some (with x o held n)
     → (not (same_name n x) && f) ≡ is_some (held n)
 bound held n x o f i j = go (same_name n x) refl
   where
@@ -82,7 +75,7 @@ pub splits : (held : Held) (n x y z : Name) (o p : Channel) {c : Channel} (f : B
 splits held n x y z o p f i new j =
     named held n x None _ i
     (neither (same_name n y) (same_name n z) f
-        ∙ bound (without x held) n y (Some o) _ new.0 (bound (with y (Some o) (without x held)) n z (Some p) f other j))
+    ∙ bound (without x held) n y (Some o) _ new.0 (bound (with y (Some o) (without x held)) n z (Some p) f other j))
   where
     other : with y (Some o) (without x held) z ≡ None
     other = passed (without x held) z y (Some o) (same-turned z y ∙ new.2) ∙ new.1
@@ -115,7 +108,7 @@ forks held n x y z keep o p f g i new left right =
 -- Commands that leave nothing
 
 -- the names are held, and no other is
-pub these : (held : Held) (n : Name) (xs : List Name) → HoldsOnly xs held → (is_among n xs ≡ true → true ≡ is_some (held n)) → is_among n xs ≡ is_some (held n)
+these : (held : Held) (n : Name) (xs : List Name) → HoldsOnly xs held → (is_among n xs ≡ true → true ≡ is_some (held n)) → is_among n xs ≡ is_some (held n)
 these held n xs alone there = go (is_among n xs) refl
   where
     go : (p : Bool) → is_among n xs ≡ p → p ≡ is_some (held n)
@@ -135,7 +128,7 @@ links held n x y i j alone =
     ap (λ b. same_name n x || b) (sym (or-false (same_name n y)))
     ∙ these held n (x ∷ y ∷ []) alone
     (either (same_name n x) (same_name n y || false) (as-held held n x i)
-        (either (same_name n y) false (as-held held n y j) (λ k. absurd (true≢false (sym k)))))
+    (either (same_name n y) false (as-held held n y j) (λ k. absurd (true≢false (sym k)))))
 
 handed : (held : Held) (n : Name) (side : Side) (xs : List Ident) (ts : List ChanType) → AreHanded held side xs ts → is_among n (names_of xs) ≡ true → true ≡ is_some (held n)
 handed held n side [] [] h i = absurd (true≢false (sym i))
@@ -153,9 +146,6 @@ calls held n r s xs ys ts us h k alone =
 
 -- Rows: h says whether the name is held, f whether it is free in a row, and g whether it is in the others
 
-pub no-rows : (h : Bool) → (h || false) ≡ h
-no-rows = or-false
-
 pub first-row : (h f g : Bool) → f ≡ h → (h || g) ≡ h → (f || g) ≡ h
 first-row h f g i j = ap (λ b. b || g) i ∙ j
 
@@ -170,4 +160,4 @@ begins n x (b.Hcase at c rows) i = ap (λ m. same_name n m || is_free n (b.Hcase
 begins n x _ i = absurd (true≢false (sym i))
 
 pub begun : (n x : Name) (body : Body) (g : Bool) → receives_on x body ≡ true → (same_name n x || (is_free n body || g)) ≡ (is_free n body || g)
-begun n x body g i = or-bracket (same_name n x) (is_free n body) g ∙ ap (λ b. b || g) (begins n x body i)
+begun n x body g i = or-assoc (same_name n x) (is_free n body) g ∙ ap (λ b. b || g) (begins n x body i)

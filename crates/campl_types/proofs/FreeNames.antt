@@ -1,101 +1,31 @@
 -- The free names of a well formed body are exactly the channels that are held.
-use Rattle.std.proofs.Common.{◌≡◌, ◌∙◌, refl, sym, ap, ◌≤◌, arith, Bool, true, false, not, ◌&&◌, ◌||◌, List, [], ◌∷◌, Option, Some, None, is_some, map, true≢false}
+use Rattle.std.proofs.Common.{◌≡◌, ◌∙◌, refl, sym, ap, ◌≤◌, arith, not, ◌&&◌, ◌||◌, Some, None, is_some}
 use Rattle.std.specs.Prelude.{IsTrue}
+use Rattle.std.proofs.Math.Bool.{or-false}
 use Rattle.std.proofs.lemmas.Option.{none-some}
 use Rattle.campl_tree.specs.declared.service.Side.{Side}
 use Rattle.campl_tree.specs.declared.service.Side.TheVariants.{Input, Output}
 use Rattle.campl_tree.specs.Plain.SeqType.{SeqType}
-use Rattle.campl_tree.specs.Plain.ChanType.{ChanType}
-use Rattle.campl_tree.specs.Plain.ChanType as c
 use Rattle.campl_tree.specs.Plain.Process as b
 use Rattle.campl_tree.specs.Plain.Process.{Body, HcaseRows, CaseRows, Branches, Parts}
-use Rattle.campl_tree.specs.Plain.Decl.{Decl, Data, Protocol, Coprotocol, Function, Process}
-use Rattle.campl_types.specs.Names.{Name, same_name, is_among, all_among}
-use Rattle.campl_types.specs.World.{World, names_of, TypeEntry, DataType, ProtocolType, CoprotocolType, type_entry, type_named, where_named, or_else, declared_ident}
-use Rattle.campl_types.specs.Substitution.{list_of}
-use Rattle.campl_types.specs.Polarity.{Choices, Offers, deed, of_named}
+use Rattle.campl_types.specs.Names.{Name, is_among}
+use Rattle.campl_types.specs.World.{World, names_of}
+use Rattle.campl_types.specs.Polarity.{Choices}
 use Rattle.campl_types.specs.Fits.{Vars}
-use Rattle.campl_types.specs.Held.{Channel, On, Held, with, without, only}
+use Rattle.campl_types.specs.Held.{Channel, On, Held}
 use Rattle.campl_types.specs.Headers.{Links, links_in, link_names, share}
-use Rattle.campl_types.specs.Linear.{IsWellFormed, RowsAreWellFormed, BranchesAreWellFormed, CasesAreWellFormed, PartsAreWellFormed, HasEachOnce}
-use Rattle.campl_types.specs.Free.{is_free, is_free_in_rows, is_free_in_branches, is_free_in_cases, is_free_in_parts, is_some_item, has_constructor, all_have_constructors}
-use Rattle.campl_types.proofs.FreeCommands.{named, named-again, still, splits, forks, halts, links, calls, no-rows, first-row, one-more-row, begun}
+use Rattle.campl_types.specs.Linear.{IsWellFormed, RowsAreWellFormed, BranchesAreWellFormed, CasesAreWellFormed, PartsAreWellFormed}
+use Rattle.campl_types.specs.Free.{is_free, is_free_in_rows, is_free_in_branches, is_free_in_cases, is_free_in_parts, all_have_constructors}
+use Rattle.campl_types.proofs.OfferedRows.{not-without-rows}
+use Rattle.campl_types.proofs.FreeCommands.{named, named-again, still, splits, forks, halts, links, calls, first-row, one-more-row, begun}
 use Rattle.campl_types.proofs.FreeParts.{in_headers, no-more-than-header, plugs}
 
--- Where each protocol has a constructor, an offer has a choice
-
-abbrev entry_has : Option TypeEntry → Bool
-entry_has (Some (DataType d)) = true
-entry_has (Some (ProtocolType d)) = is_some_item d.constructors
-entry_has (Some (CoprotocolType d)) = is_some_item d.constructors
-entry_has None = true
-
-and-first : (a b : Bool) → (a && b) ≡ true → a ≡ true
-and-first true b i = refl
-and-first false b i = i
-
-and-second : (a b : Bool) → (a && b) ≡ true → b ≡ true
-and-second true b i = i
-and-second false b i = absurd (true≢false (sym i))
-
-declared-has : (d : Decl) → has_constructor d ≡ true → entry_has (type_entry d) ≡ true
-declared-has (Data d) i = refl
-declared-has (Protocol d) i = i
-declared-has (Coprotocol d) i = i
-declared-has (Function d) i = refl
-declared-has (Process d) i = refl
-
-one-has : (p : Bool) (e f : Option TypeEntry) → entry_has e ≡ true → entry_has f ≡ true → entry_has (or_else (where_named p e) f) ≡ true
-one-has true (Some e) f i j = i
-one-has true None f i j = j
-one-has false e f i j = j
-
-named-has : (w : World) (x : Name) → all_have_constructors w ≡ true → entry_has (type_named w x) ≡ true
-named-has [] x i = refl
-named-has (d ∷ ds) x i =
-    one-has (same_name x (declared_ident d).name) (type_entry d) (type_named ds x)
-    (declared-has d (and-first (has_constructor d) (all_have_constructors ds) i))
-    (named-has ds x (and-second (has_constructor d) (all_have_constructors ds) i))
-
-no-choice : {A B : Type 0} (f : A → B) (xs : List A) → is_some_item xs ≡ true → map f xs ≡ [] → ⊥
-no-choice f [] i j = true≢false (sym i)
-no-choice f (x ∷ xs) i j = cc j
-
-same-offers : {cs ds : Choices} → Offers cs ≡ Offers ds → cs ≡ ds
-same-offers i = cc
-
-offered : (e : Option TypeEntry) (side : Side) (ts : List SeqType) → entry_has e ≡ true → of_named e side ts ≡ Offers [] → ⊥
-offered (Some (DataType d)) side ts i j = cc j
-offered (Some (ProtocolType d)) Output ts i j = cc j
-offered (Some (ProtocolType d)) Input ts i j = no-choice _ d.constructors i (same-offers j)
-offered (Some (CoprotocolType d)) Output ts i j = no-choice _ d.constructors i (same-offers j)
-offered (Some (CoprotocolType d)) Input ts i j = cc j
-offered None side ts i j = cc j
-
-offers-none : (w : World) (side : Side) (u : ChanType) → all_have_constructors w ≡ true → deed w side u ≡ Offers [] → ⊥
-offers-none w Output (c.Put t x) i j = cc j
-offers-none w Input (c.Put t x) i j = cc j
-offers-none w Output (c.Get t x) i j = cc j
-offers-none w Input (c.Get t x) i j = cc j
-offers-none w Output (c.Tensor x y) i j = cc j
-offers-none w Input (c.Tensor x y) i j = cc j
-offers-none w Output (c.Par x y) i j = cc j
-offers-none w Input (c.Par x y) i j = cc j
-offers-none w side (c.Named at x ts) i j = offered (type_named w x) side (list_of ts) (named-has w x i) j
-offers-none w side c.TopBot i j = cc j
-offers-none w side (c.Neg x) i j = cc j
-
--- so an `hcase` has a row
-has-row : (w : World) (side : Side) (u : ChanType) (cs : Choices) → all_have_constructors w ≡ true → deed w side u ≡ Offers cs → HasEachOnce b.no_hcase_rows cs → ⊥
-has-row w side u [] i j h = offers-none w side u i j
-has-row w side u (e ∷ cs) i j h = true≢false (sym h.1)
-
+-- a race has two branches
 too-few : 2 ≤ 0 → ⊥
 too-few h = omega (arith, h)
 
--- Bodies
-
 mutual
+  -- a name is free exactly where it is held
   pub names-held : (w : World) → IsTrue (all_have_constructors w) → (vs : Vars) (held : Held) (body : Body) → IsWellFormed w vs held body → (n : Name)
       → is_free n body ≡ is_some (held n)
   names-held w some vs held (b.Then (b.Put at a x) rest) d n = named held n x.name (Some (On d.0 d.3)) (is_free n rest) d.4 (names-held w some vs _ rest d.7 n)
@@ -106,12 +36,12 @@ mutual
   names-held w some vs held (b.Then (b.Close at x) rest) d n = named held n x.name None (is_free n rest) d.2 (names-held w some vs _ rest d.4 n)
   names-held w some vs held (b.Halt at None) d n = sym (ap is_some (d n refl))
   names-held w some vs held (b.Halt at (Some x)) d n = halts held n x.name d.2 d.4
-  names-held w some vs held (b.Hcase at x b.no_hcase_rows) d n = absurd (has-row w d.0 d.1 d.2 some d.4 d.5)
+  names-held w some vs held (b.Hcase at x b.no_hcase_rows) d n = absurd (not-without-rows w d.0 d.1 d.2 some d.4 d.5)
   names-held w some vs held (b.Hcase at x (b.hcase_row_then k body rows)) d n =
       named-again held n x.name _ d.3
       (first-row (is_some (held n)) (is_free n body) (is_free_in_rows n rows)
-          (names-held w some vs _ body d.6.2 n ∙ still held n x.name _ d.3)
-          (rows-name-held w some vs held x.name d.0 d.2 rows (On d.0 d.1) d.3 d.6.3 n))
+      (names-held w some vs _ body d.6.2 n ∙ still held n x.name _ d.3)
+      (rows-name-held w some vs held x.name d.0 d.2 rows (On d.0 d.1) d.3 d.6.3 n))
   names-held w some vs held (b.Fork at x y left z right) d n =
       forks held n x.name y.name z.name d.4 (On d.0 d.2) (On d.0 d.3) (is_free n left) (is_free n right) d.5 d.7
       (names-held w some vs _ left d.8 n) (names-held w some vs _ right d.9 n)
@@ -129,25 +59,27 @@ mutual
   names-held w some vs held (b.Identity at x negated y) d n = links held n x y.name d.4 d.5 d.8
   names-held w some vs held (b.Call at x args inputs outputs) d n = calls held n Input Output inputs outputs d.0.inputs d.0.outputs d.3 d.4 d.6
 
-  -- rows name nothing that isn't held
+  -- the rows of `hcase` name nothing that isn't held
   rows-name-held : (w : World) → IsTrue (all_have_constructors w) → (vs : Vars) (held : Held) (x : Name) (side : Side) (cs : Choices) (rows : HcaseRows) (d : Channel)
       → held x ≡ Some d → RowsAreWellFormed w vs held x side cs rows → (n : Name) → (is_some (held n) || is_free_in_rows n rows) ≡ is_some (held n)
-  rows-name-held w some vs held x side cs b.no_hcase_rows d i h n = no-rows (is_some (held n))
+  rows-name-held w some vs held x side cs b.no_hcase_rows d i h n = or-false (is_some (held n))
   rows-name-held w some vs held x side cs (b.hcase_row_then k body rows) d i h n =
       one-more-row (is_some (held n)) (is_free n body) (is_free_in_rows n rows) (names-held w some vs _ body h.2 n ∙ still held n x _ i)
       (rows-name-held w some vs held x side cs rows d i h.3 n)
 
+  -- so do branches
   branches-name-held : (w : World) → IsTrue (all_have_constructors w) → (vs : Vars) (held : Held) (rows : Branches) → BranchesAreWellFormed w vs held rows → (n : Name)
       → (is_some (held n) || is_free_in_branches n rows) ≡ is_some (held n)
-  branches-name-held w some vs held b.no_branches h n = no-rows (is_some (held n))
+  branches-name-held w some vs held b.no_branches h n = or-false (is_some (held n))
   branches-name-held w some vs held (b.branch_then x body rows) h n =
       ap (λ p. is_some (held n) || p) (begun n x.name body (is_free_in_branches n rows) h.0)
       ∙ one-more-row (is_some (held n)) (is_free n body) (is_free_in_branches n rows) (names-held w some vs held body h.1 n)
       (branches-name-held w some vs held rows h.2 n)
 
+  -- and the rows of `case`
   cases-name-held : (w : World) → IsTrue (all_have_constructors w) → (vs : Vars) (held : Held) (t : SeqType) (rows : CaseRows) → CasesAreWellFormed w vs held t rows → (n : Name)
       → (is_some (held n) || is_free_in_cases n rows) ≡ is_some (held n)
-  cases-name-held w some vs held t b.no_case_rows h n = no-rows (is_some (held n))
+  cases-name-held w some vs held t b.no_case_rows h n = or-false (is_some (held n))
   cases-name-held w some vs held t (b.case_row_then p body rows) h n =
       one-more-row (is_some (held n)) (is_free n body) (is_free_in_cases n rows) (names-held w some _ held body h.3 n)
       (cases-name-held w some vs held t rows h.4 n)

@@ -37,7 +37,7 @@ kept-under vs us =
     let r = extended vs us in
     ap (take (length vs)) r.1 ∙ take_at vs r.0 (length vs) refl
 
-or-assoc : (a b c : Bool) → (a || (b || c)) ≡ ((a || b) || c)
+pub or-assoc : (a b c : Bool) → (a || (b || c)) ≡ ((a || b) || c)
 or-assoc true b c = refl
 or-assoc false b c = refl
 

@@ -3,6 +3,7 @@
 -- so at a `fork` they tell which channels go to which body (proofs/FreeNames).
 use Rattle.std.specs.Prelude.{◌≡◌, Bool, true, false, not, ◌&&◌, ◌||◌, List, [], ◌∷◌, Some, None}
 use Rattle.campl_tree.specs.declared.place.Ident.{Ident}
+use Rattle.campl_tree.specs.declared.service.Side.{Side}
 use Rattle.campl_tree.specs.Plain.ChanType.{ChanType}
 use Rattle.campl_tree.specs.Plain.Process as b
 use Rattle.campl_tree.specs.Plain.Process.{Action, Body, HcaseRows, CaseRows, Branches, Parts}
@@ -14,7 +15,6 @@ use Rattle.campl_types.specs.Fits.{Vars}
 use Rattle.campl_types.specs.Held.{On, Held, with, without, only}
 use Rattle.campl_types.specs.Headers.{link_names}
 use Rattle.campl_types.specs.Linear.{AreNew, IsWellFormed}
-use Rattle.campl_tree.specs.declared.service.Side.{Side}
 
 -- Free names
 
@@ -72,15 +72,15 @@ abbrev mutual
 
 -- Worlds in which an `hcase` has a row
 
--- whether there is an item
-abbrev pub is_some_item : {A : Type 0} → List A → Bool
-is_some_item [] = false
-is_some_item (x ∷ xs) = true
+-- whether there is anything
+abbrev pub is_nonempty : {A : Type 0} → List A → Bool
+is_nonempty [] = false
+is_nonempty (x ∷ xs) = true
 
 -- whether a protocol or coprotocol has a constructor
 abbrev pub has_constructor : Decl → Bool
-has_constructor (Protocol d) = is_some_item d.constructors
-has_constructor (Coprotocol d) = is_some_item d.constructors
+has_constructor (Protocol d) = is_nonempty d.constructors
+has_constructor (Coprotocol d) = is_nonempty d.constructors
 has_constructor (Data d) = true
 has_constructor (Function d) = true
 has_constructor (Process d) = true

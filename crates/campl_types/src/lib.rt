@@ -38,6 +38,8 @@ pub use act::Act;
 pub use ends::partners;
 pub use fault::NameFault;
 pub use judge::declare;
-pub use laws::{law_bodies_name_what_they_hold, law_forks_divide_by_names, law_forks_divide_in_one_way};
+pub use laws::{
+    law_bodies_name_what_they_hold, law_forks_divide_by_names, law_forks_divide_in_one_way,
+};
 pub use run::RunServices;
 pub use world::{ConstructorRef, LowerRef, TypeRef, World};

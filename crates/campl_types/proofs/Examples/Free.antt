@@ -4,7 +4,6 @@ use Rattle.campl_tree.specs.declared.place.Ident.{Ident}
 use Rattle.campl_tree.specs.declared.service.Side.TheVariants.{Input}
 use Rattle.campl_tree.specs.Plain.ChanType.{TopBot}
 use Rattle.campl_tree.specs.Plain.Process as b
-use Rattle.campl_types.specs.Prelude.{prelude}
 use Rattle.campl_types.specs.World.{World}
 use Rattle.campl_types.specs.Held.{Held, On, nothing_held, with}
 use Rattle.campl_types.specs.Linear.{IsWellFormed}
@@ -78,13 +77,13 @@ fork-binds-a = refl
 fork-binds-q-in-one : is_free (codes "q") forks ≡ true
 fork-binds-q-in-one = refl
 
--- each protocol of the prelude has a constructor
-prelude-has : all_have_constructors prelude ≡ true
-prelude-has = refl
-
 -- a protocol without constructors, and one who takes a choice of none while he holds q
 empty : World
 empty = protocol_decl 1 (ident 1 10 (codes "Never")) [] (ident 1 19 (codes "S")) [] ∷ []
+
+empty-lacks-one : all_have_constructors empty ≡ false
+unfolding empty
+empty-lacks-one = refl
 
 holds-more : Held
 holds-more = with (codes "p") (Some (On Input (protocol 1 1 (codes "Never")))) (with (codes "q") (Some (On Input TopBot)) nothing_held)
