@@ -25,3 +25,4 @@ mod Parts
 mod Lookups
 mod Headers
 mod Tables
+mod Free

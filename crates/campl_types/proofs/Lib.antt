@@ -23,4 +23,9 @@ pub mod Turned
 pub mod Instances
 pub mod Missing
 pub mod MissingUnfolds
+mod FreeCommands
+mod FreeParts
+pub mod OfferedRows
+pub mod FreeNames
+pub mod Forked
 mod Examples

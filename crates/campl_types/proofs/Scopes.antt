@@ -37,7 +37,7 @@ kept-under vs us =
     let r = extended vs us in
     ap (take (length vs)) r.1 ∙ take_at vs r.0 (length vs) refl
 
-or-assoc : (a b c : Bool) → (a || (b || c)) ≡ ((a || b) || c)
+pub or-assoc : (a b c : Bool) → (a || (b || c)) ≡ ((a || b) || c)
 or-assoc true b c = refl
 or-assoc false b c = refl
 
@@ -47,7 +47,7 @@ or-turn true false c = refl
 or-turn false true c = refl
 or-turn false false c = refl
 
-among-append : (x : Name) (xs ys : List Name) → is_among x (xs ++ ys) ≡ (is_among x xs || is_among x ys)
+pub among-append : (x : Name) (xs ys : List Name) → is_among x (xs ++ ys) ≡ (is_among x xs || is_among x ys)
 among-append x [] ys = refl
 among-append x (y ∷ xs) ys = ap (λ b. same_name x y || b) (among-append x xs ys) ∙ or-assoc (same_name x y) (is_among x xs) (is_among x ys)
 

@@ -18,7 +18,7 @@ Links = Name → Option ChanType
 abbrev pub links_in : List Link → Links
 links_in links x = found x (map (λ (l : Link). (l.name.name, l.channel_type)) links)
 
-abbrev one_if : Bool → ℕ
+abbrev pub one_if : Bool → ℕ
 one_if true = 1
 one_if false = 0
 

@@ -25,4 +25,5 @@ pub mod Sequential
 pub mod Held
 pub mod Headers
 pub mod Linear
+pub mod Free
 pub mod Typed

@@ -22,6 +22,7 @@ mod judge_bodies;
 mod judge_decls;
 mod judge_exprs;
 mod judge_types;
+mod laws;
 mod name_set;
 mod polarity;
 mod prelude;
@@ -37,5 +38,8 @@ pub use act::Act;
 pub use ends::partners;
 pub use fault::NameFault;
 pub use judge::declare;
+pub use laws::{
+    law_bodies_name_what_they_hold, law_forks_divide_by_names, law_forks_divide_in_one_way,
+};
 pub use run::RunServices;
 pub use world::{ConstructorRef, LowerRef, TypeRef, World};
