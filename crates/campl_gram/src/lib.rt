@@ -32,16 +32,6 @@
 //! #[tactic(auto, using(crate::proofs::Tables::reads_sum))]
 //! fn sum(alloc: Global, cursor: &mut Cursor<'_>, depth: u32) -> Result<Tree, ParseError>
 //!     ensures { Reads (read sum_name depth cursor.old) result cursor.new }
-//! {
-//!     let place = cursor.place();
-//!     let left = atom(alloc, cursor, depth)?;
-//!     if !cursor.at(Kind::Plus) {
-//!         return Ok(left);
-//!     }
-//!     cursor.expect(Kind::Plus, depth)?;
-//!     let right = Boxed::new(alloc, sum(alloc, cursor, depth + 1)?)?;
-//!     Ok(Tree::Sum(place, Boxed::new(alloc, left)?, right))
-//! }
 //! ```
 #![tactic(auto)]
 
