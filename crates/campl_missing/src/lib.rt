@@ -1,0 +1,2 @@
+//! The missing pattern: what rows of patterns leave uncovered.
+#![tactic(auto)]

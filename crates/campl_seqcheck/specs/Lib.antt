@@ -1,0 +1,5 @@
+pub mod Judged
+pub mod Matching
+pub mod Fitting
+pub mod Judging
+pub mod Functions
