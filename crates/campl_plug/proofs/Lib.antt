@@ -1,0 +1,9 @@
+pub mod Places
+pub mod Paths
+pub mod Tests
+pub mod Labelled
+pub mod Trees
+pub mod Searched
+pub mod Found
+pub mod Marks
+pub mod Cycles
