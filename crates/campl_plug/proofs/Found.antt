@@ -1,5 +1,5 @@
 -- The new neighbours of a part, found in order of their number.
-use Rattle.std.proofs.Common.{◌≡◌, ◌≢◌, ℕ, zero, suc, ◌+◌, ◌<◌, ◌≤◌, ◌⊎◌, inl, inr, Bool, true, false, eqb, ◌||◌, if◌then◌else◌, List, [], ◌∷◌, ◌++◌, Option, Some, None, length, refl, sym, ap, subst, ◌∙◌, arith, length-append}
+use Rattle.std.proofs.Common.{◌≡◌, ◌≢◌, ℕ, zero, suc, ◌+◌, ◌<◌, ◌≤◌, ◌⊎◌, inl, inr, Bool, true, false, eqb, ◌||◌, ◌&&◌, not, ◌↔◌, IsTrue, get_or, if◌then◌else◌, List, [], ◌∷◌, ◌++◌, Option, Some, None, length, refl, sym, ap, subst, ◌∙◌, arith, length-append}
 use Rattle.std.proofs.lemmas.Bool.{eqb-true, eqb-false, eq-eqb}
 use Rattle.std.specs.List.{slice_get, list_any}
 use Rattle.campl_plug.specs.declared.plug.Link.{Link}
@@ -105,3 +105,24 @@ module _ (k : ℕ) (links : List Link) (order : List ℕ) (p bound : ℕ) (found
           last : (m : ℕ) → j ≡ length found + m → slice_get (bound ∷ []) m ≡ Some q → (j ≡ length found) × (bound ≡ q)
           last zero h g = (omega (arith, h), cc)
           last (suc m) h g = absurd (let z : ⊥ = cc in z)
+
+-- what the test of a candidate says
+module _ (k : ℕ) (links : List Link) (order : List ℕ) (p bound : ℕ) (found : List ℕ) (f : FoundBelow k links order p bound found)
+    (marks : List Bool) (marked : (q : ℕ) → IsTrue (get_or marks q false) ↔ Linked links p q) where
+  pub found-yes : IsPart k bound → (get_or marks bound false && not (list_any (λ x. eqb x bound) order)) ≡ true → FoundBelow k links order p (bound + 1) (found ++ bound ∷ [])
+  found-yes part e = elim (split (get_or marks bound false)) [
+    | inl m ↦ elim (split (list_any (λ x. eqb x bound) order)) [
+      | inl a ↦ absurd (let g : false ≡ true = rw (m, a) at e in let z : ⊥ = cc in z)
+      | inr a ↦ found-more k links order p bound found f part ((marked bound).0 m) (λ i. any-nowhere order bound i a)
+    ]
+    | inr m ↦ absurd (let g : false ≡ true = rw m at e in let z : ⊥ = cc in z)
+  ]
+
+  pub found-no : (get_or marks bound false && not (list_any (λ x. eqb x bound) order)) ≡ false → FoundBelow k links order p (bound + 1) found
+  found-no e = elim (split (get_or marks bound false)) [
+    | inl m ↦ elim (split (list_any (λ x. eqb x bound) order)) [
+      | inl a ↦ found-same k links order p bound found f (λ l. any-there order bound a)
+      | inr a ↦ absurd (let g : true ≡ false = rw (m, a) at e in let z : ⊥ = cc in z)
+    ]
+    | inr m ↦ found-same k links order p bound found f (λ l. absurd (let g : true ≡ false = sym ((marked bound).1 l) ∙ m in let z : ⊥ = cc in z))
+  ]

@@ -1,5 +1,6 @@
 //! The breadth-first search from part 1.
-ghost use Rattle.std.specs.Prelude.{◌≡◌, ◌+◌, ◌<◌, ◌≤◌, ◌↔◌, ℕ, All, IfOk, IsTrue, length, slice_index_or, Bool, false};
+ghost use Rattle.std.specs.Prelude.{◌≡◌, ◌+◌, ◌<◌, ◌≤◌, ◌↔◌, ℕ, All, IfOk, IsTrue, length, slice_index_or, Bool, Some, false, not, ◌&&◌, ◌==◌};
+ghost use Rattle.std.specs.List.{list_any};
 ghost use Rattle.campl_plug.specs.Links.{IsWithin, Joins, Linked};
 ghost use Rattle.campl_plug.specs.Tree.{AreReached};
 ghost use Rattle.campl_plug.specs.Order.{IsBreadthFirst};
@@ -35,11 +36,18 @@ fn new_neighbours(alloc: Global, parts: u32, links: &[Link], order: &[u32], part
     let is_linked = mark_linked(alloc, parts, links, part)?;
     let mut found = Vec::new(alloc);
     for candidate in 1..=parts {
-        if is_linked[candidate as usize] && !order.contains(&candidate) {
+        if is_new_neighbour(&is_linked, order, candidate) {
             found.push(candidate)?;
         }
     }
     Ok(found)
+}
+
+fn is_new_neighbour(is_linked: &[bool], order: &[u32], candidate: u32) -> bool
+    requires { candidate < length is_linked.now }
+    ensures { result ≡ (slice_index_or is_linked.now candidate false && not (list_any (λ x. x == candidate) order.now)) }
+{
+    is_linked[candidate as usize] && !order.contains(&candidate)
 }
 
 // Which parts have a link to `part`, at their numbers.

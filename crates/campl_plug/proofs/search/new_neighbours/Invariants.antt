@@ -5,4 +5,4 @@ use Rattle.campl_plug.proofs.search.new_neighbours.Given as goal
 
 -- found are those below the candidate
 abbrev pub invariant-loop-candidate : goal.invariant-loop-candidate
-invariant-loop-candidate l = FoundBelow l.parts l.links l.order l.part l.candidate-counter l.found.items
+invariant-loop-candidate l = FoundBelow l.parts l.links l.order l.part l.candidate l.found.items
