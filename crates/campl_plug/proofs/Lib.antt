@@ -7,3 +7,6 @@ pub mod Searched
 pub mod Found
 pub mod Marks
 pub mod Cycles
+pub mod Peeled
+pub mod OneOrder
+pub mod OneFault

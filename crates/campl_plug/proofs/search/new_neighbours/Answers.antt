@@ -27,7 +27,7 @@ returns c = elim c.loop-candidate-test.branch [
         (found-all c.args.parts c.args.links.now c.args.order.now c.args.part c.loop-candidate.candidate c.loop-candidate.found.items (omega (arith, w.loop-candidate-test.false)) c.loop-candidate.invariant)
     | then-loop-candidate-test+else-candidate-parts w ↦
         let marked : (q : ℕ) → IsTrue (get_or w.deref.result.now q false) ↔ Linked c.args.links.now c.args.part q = rw w.deref.ensures.value c.in_ok-is_linked.ensures.marked in
-        let past : c.args.parts < c.loop-candidate.candidate + 1 = ? in
+        let past : c.args.parts < c.loop-candidate.candidate + 1 = omega arith in
         elim w.if-is_new_neighbour.branch [
           | then-is_new_neighbour+in_ok-push v ↦ rw (w.found-is, v.found-is, v.in_ok-push.ensures.items)
               (found-all c.args.parts c.args.links.now c.args.order.now c.args.part (c.loop-candidate.candidate + 1) (c.loop-candidate.found.items ++ c.loop-candidate.candidate ∷ []) past
