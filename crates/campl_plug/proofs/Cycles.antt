@@ -36,12 +36,11 @@ free-first k links labels size own =
       size = size;
       labelling = own-labelling k (slice_index labels) o;
       free = λ j h. absurd (omega (arith, h));
-      roots = omega (arith, r)
+      roots = omega (arith, r);
     }
 
 module _ (k : ℕ) (links : List Link) (i : ℕ) (labels : List ℕ) (s : FreeSoFar k links i labels)
     (l : Link) (at : slice_get links i ≡ Some l) (w : IsWithin k l) where
-
   abbrev f : ℕ → ℕ
   f = slice_index labels
 
@@ -49,7 +48,7 @@ module _ (k : ℕ) (links : List Link) (i : ℕ) (labels : List ℕ) (s : FreeSo
   pub free-closes : slice_index labels l.a ≡ slice_index labels l.b → IsFirstCycle links i
   free-closes e = record {
     closes = (l, at, s.labelling.joined l.a l.b w.a_part w.b_part e);
-    first = s.free
+    first = s.free;
   }
 
   -- and its place is below k, since some part is a root
@@ -61,18 +60,18 @@ module _ (k : ℕ) (links : List Link) (i : ℕ) (labels : List ℕ) (s : FreeSo
 
   pub free-more : (slice_index labels l.a ≡ slice_index labels l.b → ⊥) → FreeSoFar k links (i + 1) (map (relabel_of (slice_index labels l.a) (slice_index labels l.b)) labels)
   free-more apart = record {
-      size = length-map labels r ∙ s.size;
-      labelling = subst (λ z. IsLabelling k z g) (sym more) (new-labelling k (take i links) f s.labelling l w apart g is);
-      free = λ j h. elim (same-eqb j i) [
-        | inl e ↦ λ (m, a, joined).
-            let same : m ≡ l = get-one links i m l (subst (λ z. slice_get links z ≡ Some m) e a) at in
-            apart (joined-labels (take i links) f s.labelling.linked l.a l.b (subst (λ z. Joined (take i links) z.a z.b) same (subst (λ z. Joined (take z links) m.a m.b) e joined)))
-        | inr e ↦ s.free j (omega (arith, h, e))
-      ];
-      roots =
+    size = length-map labels r ∙ s.size;
+    labelling = subst (λ z. IsLabelling k z g) (sym more) (new-labelling k (take i links) f s.labelling l w apart g is);
+    free = λ j h. elim (same-eqb j i) [
+      | inl e ↦ λ (m, a, joined).
+          let same : m ≡ l = get-one links i m l (subst (λ z. slice_get links z ≡ Some m) e a) at in
+          apart (joined-labels (take i links) f s.labelling.linked l.a l.b (subst (λ z. Joined (take i links) z.a z.b) same (subst (λ z. Joined (take z links) m.a m.b) e joined)))
+      | inr e ↦ s.free j (omega (arith, h, e))
+    ];
+    roots =
         let fewer : passing (is_root f) k ≡ suc (passing (is_root g) k) = new-roots k (take i links) f s.labelling l w apart g is in
-        omega (arith, fewer, s.roots)
-    }
+        omega (arith, fewer, s.roots);
+  }
     where
       r : ℕ → ℕ
       r = relabel_of (slice_index labels l.a) (slice_index labels l.b)
@@ -91,17 +90,17 @@ module _ (k : ℕ) (links : List Link) (i : ℕ) (labels : List ℕ) (s : FreeSo
 
 pub free-last : (k : ℕ) (links : List Link) (labels : List ℕ) (i : ℕ) → length links ≤ i → FreeSoFar k links i labels → AreLabels k links labels × HasNoCycle links
 free-last k links labels i past s = (
-    record { size = s.size; labelling = subst (λ z. IsLabelling k z (slice_index labels)) (take_all i links past) s.labelling },
-    λ j c. s.free j (let (l, at, joined) = c in let h : j < length links = get-within links j l at in omega (arith, h, past)) c
-  )
+  record { size = s.size; labelling = subst (λ z. IsLabelling k z (slice_index labels)) (take_all i links past) s.labelling },
+  λ j c. s.free j (let (l, at, joined) = c in let h : j < length links = get-within links j l at in omega (arith, h, past)) c,
+)
 
 -- a part with another label than part 1 is apart
 pub least-apart : (k : ℕ) (links : List Link) (labels : List ℕ) (p : ℕ) → 1 ≤ k → AreLabels k links labels → IsPart k p
-  → (slice_index labels p ≡ slice_index labels 1 → ⊥) → ((q : ℕ) → IsPart k q → q < p → slice_index labels q ≡ slice_index labels 1) → IsLeastApart k links p
+    → (slice_index labels p ≡ slice_index labels 1 → ⊥) → ((q : ℕ) → IsPart k q → q < p → slice_index labels q ≡ slice_index labels 1) → IsLeastApart k links p
 least-apart k links labels p some are part other least = record {
   part = part;
   apart = λ joined. other (sym (joined-labels links (slice_index labels) are.labelling.linked 1 p joined));
-  least = λ q here h. are.labelling.joined 1 q (record { low = omega arith; high = some }) here (sym (least q here h))
+  least = λ q here h. are.labelling.joined 1 q (record { low = omega arith; high = some }) here (sym (least q here h));
 }
 
 pub all-reached : (k : ℕ) (links : List Link) (labels : List ℕ) → 1 ≤ k → AreLabels k links labels → ((q : ℕ) → IsPart k q → slice_index labels q ≡ slice_index labels 1) → AreReached k links

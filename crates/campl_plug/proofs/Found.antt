@@ -24,7 +24,7 @@ found-none k links order p = record {
   below = λ i q e. absurd (let z : ⊥ = cc in z);
   linked = λ i q e. absurd (let z : ⊥ = cc in z);
   unseen = λ i j q e f. let z : ⊥ = cc in z;
-  each = λ q part h l. absurd (omega (arith, part.low, h))
+  each = λ q part h l. absurd (omega (arith, part.low, h));
 }
 
 pub found-all : (k : ℕ) (links : List Link) (order : List ℕ) (p bound : ℕ) (found : List ℕ) → k < bound → FoundBelow k links order p bound found → AreNewNeighbours k links order p found
@@ -33,7 +33,7 @@ found-all k links order p bound found past f = record {
   parts_alone = f.parts_alone;
   linked = f.linked;
   unseen = f.unseen;
-  each = λ q part l. f.each q part (omega (arith, part.high, past)) l
+  each = λ q part l. f.each q part (omega (arith, part.high, past)) l;
 }
 
 -- what a search of the list says
@@ -67,7 +67,7 @@ module _ (k : ℕ) (links : List Link) (order : List ℕ) (p bound : ℕ) (found
     each = λ q part h l. elim (same-eqb q bound) [
       | inl s ↦ let (i, e) = other (subst (Linked links p) s l) in inl (i, e ∙ ap Some (sym s))
       | inr s ↦ f.each q part (omega (arith, h, s)) l
-    ]
+    ];
   }
 
   -- and one that is
@@ -93,7 +93,7 @@ module _ (k : ℕ) (links : List Link) (order : List ℕ) (p bound : ℕ) (found
         | inl x ↦ inl x
         | inr x ↦ inr (x.0, get-front found (bound ∷ []) x.0 q x.1)
       ]
-    ]
+    ];
   }
     where
       cases : (j q : ℕ) → slice_get (found ++ bound ∷ []) j ≡ Some q → ((j < length found) × (slice_get found j ≡ Some q)) ⊎ ((j ≡ length found) × (bound ≡ q))

@@ -16,7 +16,7 @@ own-labelling k f own = record {
   linked = λ p q h. absurd h;
   joined = λ p q i j e. (zero, sym (own p i) ∙ (e ∙ own q j));
   inside = λ p i. subst (IsPart k) (sym (own p i)) i;
-  own = λ p i. ap f (own p i)
+  own = λ p i. ap f (own p i);
 }
 
 pub own-roots : (k : ℕ) (f : ℕ → ℕ) → ((p : ℕ) → IsPart k p → f p ≡ p) → passing (is_root f) k ≡ k
@@ -38,7 +38,7 @@ module _ (k : ℕ) (links : List Link) (f : ℕ → ℕ) (lab : IsLabelling k li
     ];
     joined = λ p q i j h. joined-front links (l ∷ []) p q (lab.joined p q i j h);
     inside = lab.inside;
-    own = lab.own
+    own = lab.own;
   }
 
   module _ (apart : f l.a ≡ f l.b → ⊥) (g : ℕ → ℕ) (is : (p : ℕ) → g p ≡ relabel_of (f l.a) (f l.b) (f p)) where
@@ -68,7 +68,7 @@ module _ (k : ℕ) (links : List Link) (f : ℕ → ℕ) (lab : IsLabelling k li
     across p q i j a b =
         let here : Linked (links ++ l ∷ []) l.a l.b = linked-back links (l ∷ []) l.a l.b (inl (inl (refl, refl))) in
         joined-on (links ++ l ∷ []) p l.a q (old p l.a i w.a_part a)
-          (joined-on (links ++ l ∷ []) l.a l.b q (joined-one (links ++ l ∷ []) l.a l.b here) (old l.b q w.b_part j (sym b)))
+        (joined-on (links ++ l ∷ []) l.a l.b q (joined-one (links ++ l ∷ []) l.a l.b here) (old l.b q w.b_part j (sym b)))
 
     new_joined : (p q : ℕ) → IsPart k p → IsPart k q → g p ≡ g q → Joined (links ++ l ∷ []) p q
     new_joined p q i j e = elim (same-eqb (f p) (f l.a)) [
@@ -110,8 +110,8 @@ module _ (k : ℕ) (links : List Link) (f : ℕ → ℕ) (lab : IsLabelling k li
         (λ p i ne. elim (same-eqb (f p) (f l.a)) [
           | inl a ↦
               apart-eqb (g p) p (λ h.
-                let t : f l.b ≡ p = sym (g-hit p a) ∙ h in
-                apart (sym a ∙ (ap f (sym t) ∙ lab.own l.b w.b_part)))
+              let t : f l.b ≡ p = sym (g-hit p a) ∙ h in
+              apart (sym a ∙ (ap f (sym t) ∙ lab.own l.b w.b_part)))
               ∙ sym (apart-eqb (f p) p (λ h. ne (sym h ∙ a)))
           | inr a ↦ ap (λ z. eqb z p) (g-miss p a)
         ])

@@ -10,3 +10,4 @@ pub mod Cycles
 pub mod Peeled
 pub mod OneOrder
 pub mod OneFault
+mod Examples

@@ -36,23 +36,22 @@ module _ (links : List Link) (i p : ℕ) (l : Link) (at : slice_get links i ≡ 
     (λ h. elim (from-last q h) [
       | inl a ↦ (m q).1 a
       | inr a ↦ absurd (let e : None ≡ Some q = (other q).1 a in let z : ⊥ = cc in z)
-    ])
+    ]),
   )
 
   -- and one that joins it marks its other end
   pub marked-more : (e : ℕ) → e < length marks → ((q : ℕ) → (Some e ≡ Some q) ↔ Joins l p q) → AreMarked (set marks e true) links (i + 1) p
   marked-more e small other q = elim (same-eqb q e) [
     | inl s ↦ (
-        (λ h. subst (λ z. Linked z p q) (sym more) (linked-back (take i links) (l ∷ []) p q (inl ((other q).0 (ap Some (sym s)))))),
-        (λ h. subst (λ z. IsTrue (get_or (set marks e true) z false)) (sym s) (get_or-set_same marks e true false small))
-      )
+      (λ h. subst (λ z. Linked z p q) (sym more) (linked-back (take i links) (l ∷ []) p q (inl ((other q).0 (ap Some (sym s)))))),
+      (λ h. subst (λ z. IsTrue (get_or (set marks e true) z false)) (sym s) (get_or-set_same marks e true false small)),
+    )
     | inr s ↦
-        let same : get_or (set marks e true) q false ≡ get_or marks q false = get_or-set_other marks e q true false s in
-        (
+        let same : get_or (set marks e true) q false ≡ get_or marks q false = get_or-set_other marks e q true false s in (
           (λ h. kept q ((m q).0 (sym same ∙ h))),
           (λ h. elim (from-last q h) [
             | inl a ↦ same ∙ (m q).1 a
             | inr a ↦ absurd (let c : Some e ≡ Some q = (other q).1 a in s (let d : q ≡ e = cc in d))
-          ])
+          ]),
         )
   ]

@@ -10,13 +10,12 @@ use Rattle.campl_plug.proofs.Peeled.{order-cases, one-distance, distances, no-fa
 
 module _ (k : ℕ) (links : List Link) (within : AllByRecursion (IsWithin k) links) (some : 1 ≤ k) (tree : IsTree k links)
     (o1 o2 : List ℕ) (b1 : IsBreadthFirst k links o1) (b2 : IsBreadthFirst k links o2) where
-
   same-predecessor : (q r s : ℕ) → IsPredecessor links r q → IsPredecessor links s q → r ≡ s
   same-predecessor = one-predecessor k links o1 b1 within some tree
 
   -- the keys can't put p first in one order and q first in the other, if those of their predecessors don't
   keys-agree : (p q : ℕ) → ((r s : ℕ) → IsPredecessor links r p → IsPredecessor links s q → IsBefore o1 r s → IsBefore o2 r s)
-    → (HasEarlierPredecessor links o1 p q ⊎ HasLowerNumber links p q) → (HasEarlierPredecessor links o2 q p ⊎ HasLowerNumber links q p) → ⊥
+      → (HasEarlierPredecessor links o1 p q ⊎ HasLowerNumber links p q) → (HasEarlierPredecessor links o2 q p ⊎ HasLowerNumber links q p) → ⊥
   keys-agree p q keeps (inl (r, s, pr, ps, rs)) (inl (s', r', ps', pr', sr)) =
       let x : s' ≡ s = same-predecessor q s' s ps' ps in
       let y : r' ≡ r = same-predecessor p r' r pr' pr in
@@ -34,7 +33,7 @@ module _ (k : ℕ) (links : List Link) (within : AllByRecursion (IsWithin k) lin
   keys-agree p q keeps (inr (t, tp, tq, h)) (inr (u, uq, up, g)) = absurd (omega (arith, h, g))
 
   firsts-agree : (p q n : ℕ) → IsDistance links p n → ((r s : ℕ) → IsPredecessor links r p → IsPredecessor links s q → IsBefore o1 r s → IsBefore o2 r s)
-    → ComesFirst links o1 p q → ComesFirst links o2 q p → ⊥
+      → ComesFirst links o1 p q → ComesFirst links o2 q p → ⊥
   firsts-agree p q n d keeps (inl (x, y, dx, dy, h)) c = absurd (let g : y ≤ x = no-farther links o2 q p y x c dy dx in omega (arith, h, g))
   firsts-agree p q n d keeps c (inl (y, x, dy, dx, h)) = absurd (let g : x ≤ y = no-farther links o1 p q x y c dx dy in omega (arith, h, g))
   firsts-agree p q n d keeps (inr (near, key)) (inr (near', key')) = keys-agree p q keeps key key'
@@ -54,9 +53,9 @@ module _ (k : ℕ) (links : List Link) (within : AllByRecursion (IsWithin k) lin
               omega (arith, t, lt))
           | inr f ↦ absurd (firsts-agree p q n d
               (λ r s pr ps rs.
-                let (m, dr, dp) = pr.nearer in
-                let t : m + 1 ≡ n = one-distance links p (m + 1) n dp d in
-                keeps fuel m (omega (arith, t, h)) r s dr rs)
+              let (m, dr, dp) = pr.nearer in
+              let t : m + 1 ≡ n = one-distance links p (m + 1) n dp d in
+              keeps fuel m (omega (arith, t, h)) r s dr rs)
               (b1.sorted p q (i, j, lt, ei, ej)) (b2.sorted q p (y, x, f, ey, ex)))
         ]
       ]

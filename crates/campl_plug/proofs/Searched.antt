@@ -27,7 +27,9 @@ abbrev pub AreSearched : ℕ → List Link → ℕ → List ℕ → Type 0
 AreSearched k links n order = (up : ℕ → ℕ) × Searched k links n order up
 
 pub searched-first : (k : ℕ) (links : List Link) → 1 ≤ k → AreSearched k links 0 (1 ∷ [])
-searched-first k links some = ((λ j. 0), record {
+searched-first k links some = (
+  (λ j. 0),
+  record {
     first = refl;
     gone = omega arith;
     parts_alone = λ i p e. subst (IsPart k) (of_one i p e).1 (record { low = omega arith; high = some });
@@ -35,8 +37,9 @@ searched-first k links some = ((λ j. 0), record {
     later = λ j q e h. absurd (let y : j ≡ 0 = (of_one j q e).0 in omega (arith, y, h));
     linked = λ j p q e h f. absurd (let y : j ≡ 0 = (of_one j q e).0 in omega (arith, y, h));
     rising = λ i j p q h g e f. absurd (let y : j ≡ 0 = (of_one j q f).0 in omega (arith, y, h, g));
-    closed = λ i p q h. absurd (omega (arith, h))
-  })
+    closed = λ i p q h. absurd (omega (arith, h));
+  },
+)
   where
     of_one : (i p : ℕ) → slice_get (1 ∷ []) i ≡ Some p → (i ≡ 0) × (1 ≡ p)
     of_one zero p e = (refl, cc)
@@ -48,7 +51,6 @@ came_by size n up j = if ltb j size then up j else n
 
 module _ (k : ℕ) (links : List Link) (n : ℕ) (order : List ℕ) (up : ℕ → ℕ) (s : Searched k links n order up)
     (p : ℕ) (here : slice_get order n ≡ Some p) (found : List ℕ) (new : AreNewNeighbours k links order p found) where
-
   next : ℕ → ℕ
   next = came_by (length order) n up
 
@@ -151,34 +153,48 @@ module _ (k : ℕ) (links : List Link) (n : ℕ) (order : List ℕ) (up : ℕ �
       let old : slice_get order i ≡ Some q = subst (λ z. slice_get order i ≡ Some z) same g in
       elim (same-eqb i n) [
         | inl at ↦ elim (new.each r (parts q r l) (subst (λ z. Linked links z r) (get-one order n q p (subst (λ z. slice_get order z ≡ Some q) at old) here) l)) [
-          | inl there ↦ (there.0, get-front order found there.0 r there.1, λ pos.
-              let o : next there.0 ≡ up there.0 = next-old there.0 (get-within order there.0 r there.1) in
-              let u : (up there.0 < n) × (up there.0 < there.0) = s.later there.0 r there.1 pos in
-              omega (arith, o, u.0, at))
-          | inr there ↦ (length order + there.0, get-back order found (length order + there.0) there.0 r refl there.1, λ pos.
-              let o : next (length order + there.0) ≡ n = next-new (length order + there.0) there.0 refl in
-              omega (arith, o, at))
+          | inl there ↦ (
+            there.0,
+            get-front order found there.0 r there.1,
+            λ pos.
+                let o : next there.0 ≡ up there.0 = next-old there.0 (get-within order there.0 r there.1) in
+                let u : (up there.0 < n) × (up there.0 < there.0) = s.later there.0 r there.1 pos in
+                omega (arith, o, u.0, at),
+          )
+          | inr there ↦ (
+            length order + there.0,
+            get-back order found (length order + there.0) there.0 r refl there.1,
+            λ pos.
+                let o : next (length order + there.0) ≡ n = next-new (length order + there.0) there.0 refl in
+                omega (arith, o, at),
+          )
         ]
         | inr off ↦
-            let there : (j : ℕ) × (slice_get order j ≡ Some r) × ((0 < j) → up j ≤ i) = s.closed i q r (omega (arith, h, off)) old l in
-            (there.0, get-front order found there.0 r there.1, λ pos.
-              let o : next there.0 ≡ up there.0 = next-old there.0 (get-within order there.0 r there.1) in
-              let u : up there.0 ≤ i = there.2 pos in
-              omega (arith, o, u))
+            let there : (j : ℕ) × (slice_get order j ≡ Some r) × ((0 < j) → up j ≤ i) = s.closed i q r (omega (arith, h, off)) old l in (
+              there.0,
+              get-front order found there.0 r there.1,
+              λ pos.
+                  let o : next there.0 ≡ up there.0 = next-old there.0 (get-within order there.0 r there.1) in
+                  let u : up there.0 ≤ i = there.2 pos in
+                  omega (arith, o, u),
+            )
       ]
 
   -- after the neighbours of the next part are added
   pub searched-more : ((q r : ℕ) → Linked links q r → IsPart k r) → AreSearched k links (suc n) (order ++ found)
-  searched-more parts = (next, record {
-    first = get-front order found 0 1 s.first;
-    gone = let e : length (order ++ found) ≡ length order + length found = length-append order found in omega (arith, wide, e);
-    parts_alone = λ i q e. elim (cases i q e) [ inl x ↦ s.parts_alone i q x.1 | inr x ↦ new.parts_alone x.0 q x.2 ];
-    once = new_once;
-    later = new_later;
-    linked = new_linked;
-    rising = new_rising;
-    closed = new_closed parts
-  })
+  searched-more parts = (
+    next,
+    record {
+      first = get-front order found 0 1 s.first;
+      gone = let e : length (order ++ found) ≡ length order + length found = length-append order found in omega (arith, wide, e);
+      parts_alone = λ i q e. elim (cases i q e) [ inl x ↦ s.parts_alone i q x.1 | inr x ↦ new.parts_alone x.0 q x.2 ];
+      once = new_once;
+      later = new_later;
+      linked = new_linked;
+      rising = new_rising;
+      closed = new_closed parts;
+    },
+  )
 
 -- a list in which each part stands at most once is no longer than there are parts
 abbrev seen : List ℕ → ℕ → Bool
@@ -197,9 +213,9 @@ seen-all k [] parts once = passing-none k
 seen-all k (x ∷ xs) parts once =
     let r : passing (seen xs) k ≡ length xs = seen-all k xs (λ i. parts (suc i)) (λ i j p a b. let e : suc i ≡ suc j = once (suc i) (suc j) p a b in omega (arith, e)) in
     let more : passing (seen (x ∷ xs)) k ≡ suc (passing (seen xs) k) = passing-more (seen xs) (seen (x ∷ xs)) k x (parts zero x refl)
-          (unseen xs x (λ i e. absurd (let h : zero ≡ suc i = once zero (suc i) x refl e in omega (arith, h))))
-          (rw (eq-eqb x x refl) refl)
-          (λ p part ne. rw (apart-eqb x p (λ e. ne (sym e))) refl) in
+    (unseen xs x (λ i e. absurd (let h : zero ≡ suc i = once zero (suc i) x refl e in omega (arith, h))))
+    (rw (eq-eqb x x refl) refl)
+    (λ p part ne. rw (apart-eqb x p (λ e. ne (sym e))) refl) in
     omega (arith, r, more)
 
 pub once-length : (k : ℕ) (xs : List ℕ) → ((i p : ℕ) → slice_get xs i ≡ Some p → IsPart k p) → Once xs → length xs ≤ k
@@ -213,7 +229,6 @@ depth up (suc fuel) (suc j) = suc (depth up fuel (up (suc j)))
 
 -- when the search has been through its whole order
 module _ (k : ℕ) (links : List Link) (order : List ℕ) (up : ℕ → ℕ) (s : Searched k links (length order) order up) where
-
   below : (j : ℕ) → suc j < length order → up (suc j) ≤ j
   below j h =
       let (q, e) = get-there order (suc j) h in
@@ -289,23 +304,26 @@ module _ (k : ℕ) (links : List Link) (order : List ℕ) (up : ℕ → ℕ) (s 
   path-deep (suc m) q (r, path, last) =
       let (i, e, d) = path-deep m r path in
       let t : i < length order = get-within order i r e in
-      let (j, f, by) = s.closed i r q t e last in
-      (j, f, elim (same-eqb j 0) [
-        | inl z ↦ let c : deep j ≡ deep 0 = ap deep z in omega (arith, c, deep-first)
-        | inr z ↦
-            let c : deep j ≡ suc (deep (up j)) = deep-later j (omega (arith, z)) (get-within order j q f) in
-            let u : up j ≤ i = by (omega (arith, z)) in
-            let v : deep (up j) ≤ deep i = deep-rises i (up j) i (omega arith) u t in
-            omega (arith, c, v, d)
-      ])
+      let (j, f, by) = s.closed i r q t e last in (
+        j,
+        f,
+        elim (same-eqb j 0) [
+          | inl z ↦ let c : deep j ≡ deep 0 = ap deep z in omega (arith, c, deep-first)
+          | inr z ↦
+              let c : deep j ≡ suc (deep (up j)) = deep-later j (omega (arith, z)) (get-within order j q f) in
+              let u : up j ≤ i = by (omega (arith, z)) in
+              let v : deep (up j) ≤ deep i = deep-rises i (up j) i (omega arith) u t in
+              omega (arith, c, v, d)
+        ],
+      )
 
   distance : (j q : ℕ) → slice_get order j ≡ Some q → IsDistance links q (deep j)
   distance j q e = record {
     path = deep-path j j q (omega arith) e;
     shortest = λ m path.
-      let (i, f, d) = path-deep m q path in
-      let same : deep i ≡ deep j = ap deep (s.once i j q f e) in
-      omega (arith, same, d)
+        let (i, f, d) = path-deep m q path in
+        let same : deep i ≡ deep j = ap deep (s.once i j q f e) in
+        omega (arith, same, d);
   }
 
   -- the part that q came by is its predecessor
@@ -333,10 +351,13 @@ module _ (k : ℕ) (links : List Link) (order : List ℕ) (up : ℕ → ℕ) (s 
             let (y, ey) = get-there order (up j) jb.0 in
             let px : IsPredecessor links x p = came-by i x p pos a ex in
             let py : IsPredecessor links y q = came-by j y q (omega (arith, h)) b ey in
-            inr ((deep i, distance i p a, subst (IsDistance links q) (sym e) (distance j q b)), elim (s.rising i j p q pos h a b) [
-              | inl z ↦ inl (x, y, px, py, (up i, up j, z, ex, ey))
-              | inr z ↦ inr (x, px, subst (λ v. IsPredecessor links v q) (get-one order (up j) y x ey (subst (λ v. slice_get order v ≡ Some x) z.0 ex)) py, z.1)
-            ])
+            inr (
+              (deep i, distance i p a, subst (IsDistance links q) (sym e) (distance j q b)),
+              elim (s.rising i j p q pos h a b) [
+                | inl z ↦ inl (x, y, px, py, (up i, up j, z, ex, ey))
+                | inr z ↦ inr (x, px, subst (λ v. IsPredecessor links v q) (get-one order (up j) y x ey (subst (λ v. slice_get order v ≡ Some x) z.0 ex)) py, z.1)
+              ],
+            )
       ]
 
   -- the order of the search is the breadth-first order
@@ -345,5 +366,5 @@ module _ (k : ℕ) (links : List Link) (order : List ℕ) (up : ℕ → ℕ) (s 
     parts_alone = s.parts_alone;
     each_part = λ p part. let (n, path) = reached p part in let (j, e, d) = path-deep n p path in (j, e);
     once = s.once;
-    sorted = in_order
+    sorted = in_order;
   }

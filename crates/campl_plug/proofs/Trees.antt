@@ -20,7 +20,7 @@ no-groups k = ((λ p. p), own-labelling k (λ p. p) (λ p i. refl), own-roots k 
 
 -- one more link joins two groups, or parts of one
 one-more : (k : ℕ) (links : List Link) (c : ℕ) (l : Link) → IsWithin k l → Groups k links c
-  → (Joined links l.a l.b × Groups k (links ++ l ∷ []) c) ⊎ ((d : ℕ) × (c ≡ suc d) × Groups k (links ++ l ∷ []) d)
+    → (Joined links l.a l.b × Groups k (links ++ l ∷ []) c) ⊎ ((d : ℕ) × (c ≡ suc d) × Groups k (links ++ l ∷ []) d)
 one-more k links c l w (f, lab, count) = elim (same-eqb (f l.a) (f l.b)) [
   | inl e ↦ inl (lab.joined l.a l.b w.a_part w.b_part e, (f, same-labelling k links f lab l w e, count))
   | inr e ↦
@@ -58,8 +58,8 @@ one-group : (k : ℕ) (links : List Link) (c : ℕ) → 1 ≤ k → AreReached k
 one-group k links c some reached (f, lab, count) =
     let first : IsPart k 1 = record { low = omega arith; high = some } in
     let more : passing (is_root f) k ≡ suc (passing (λ p. false) k) = passing-more (λ p. false) (is_root f) k (f 1) (lab.inside 1 first) refl
-          (eq-eqb (f (f 1)) (f 1) (lab.own 1 first))
-          (λ p i ne. sym (apart-eqb (f p) p (λ h. ne (sym h ∙ sym (joined-labels links f lab.linked 1 p (reached p i)))))) in
+    (eq-eqb (f (f 1)) (f 1) (lab.own 1 first))
+    (λ p i ne. sym (apart-eqb (f p) p (λ h. ne (sym h ∙ sym (joined-labels links f lab.linked 1 p (reached p i)))))) in
     let none : passing (λ p. false) k ≡ 0 = passing-none k in
     omega (arith, more, none, count)
 

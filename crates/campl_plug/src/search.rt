@@ -29,7 +29,13 @@ pub fn breadth_first(alloc: Global, parts: u32, links: &[Link]) -> Result<Vec<u3
 }
 
 // The parts with a link to `part` that aren't in the order yet, in order of their number.
-fn new_neighbours(alloc: Global, parts: u32, links: &[Link], order: &[u32], part: u32) -> Result<Vec<u32>, AllocError>
+fn new_neighbours(
+    alloc: Global,
+    parts: u32,
+    links: &[Link],
+    order: &[u32],
+    part: u32,
+) -> Result<Vec<u32>, AllocError>
     requires { All (IsWithin parts) links.now }
     ensures { IfOk result (λ found. AreNewNeighbours parts links.now order.now part found.items) }
 {
@@ -51,7 +57,12 @@ fn is_new_neighbour(is_linked: &[bool], order: &[u32], candidate: u32) -> bool
 }
 
 // Which parts have a link to `part`, at their numbers.
-fn mark_linked(alloc: Global, parts: u32, links: &[Link], part: u32) -> Result<Vec<bool>, AllocError>
+fn mark_linked(
+    alloc: Global,
+    parts: u32,
+    links: &[Link],
+    part: u32,
+) -> Result<Vec<bool>, AllocError>
     requires { All (IsWithin parts) links.now }
     ensures size { IfOk result (λ marks. length marks.items ≡ parts + 1) }
     ensures marked { IfOk result (λ marks. (q : ℕ) → IsTrue (slice_index_or marks.items q false) ↔ Linked links.now part q) }

@@ -1,9 +1,10 @@
 //! The order of the parts of a tree.
-ghost use Rattle.std.specs.Prelude.{◌≤◌, All, IfOk, IfErr};
+ghost use Rattle.std.specs.Prelude.{◌≤◌, All, IfOk, IfErr, IsOkUnless};
 ghost use Rattle.campl_plug.specs.Links.{IsWithin};
 ghost use Rattle.campl_plug.specs.Tree.{IsTree};
 ghost use Rattle.campl_plug.specs.Order.{IsBreadthFirst};
 ghost use Rattle.campl_plug.specs.Faults.{IsFaultOf};
+ghost use Rattle.campl_plug.specs.declared.plug.PlugFault.TheVariants.{OutOfMemory};
 
 use crate::labels::{label_parts, least_apart};
 use crate::plug::{Link, PlugFault};
@@ -14,13 +15,14 @@ use std::alloc::Global;
 ///
 /// `Cycle` names the first link, from 0, whose two parts are joined by links before it or are the same
 /// part. `Apart` comes where no link closes a cycle, and names the least part that isn't reached from
-/// part 1. `OutOfMemory` may come at any time. The time grows as `parts` times the number of links and the
-/// memory as `parts`.
+/// part 1. `OutOfMemory` may come at any time. The time grows as the square of `parts`, and the memory as
+/// `parts`: a list with more links than parts closes a cycle by then.
 pub fn tree_order(alloc: Global, parts: u32, links: &[Link]) -> Result<Vec<u32>, PlugFault>
     requires some { 1 ≤ parts }
     requires within { All (IsWithin parts) links.now }
     ensures tree { IfOk result (λ _. IsTree parts links.now) }
     ensures order { IfOk result (λ order. IsBreadthFirst parts links.now order.items) }
+    ensures whole { IsTree parts links.now → IsOkUnless result OutOfMemory }
     ensures fault { IfErr result (IsFaultOf parts links.now) }
 {
     let labels = label_parts(alloc, parts, links)?;

@@ -1,9 +1,9 @@
-use Rattle.std.proofs.Common.{◌≡◌, ◌+◌, ◌<◌, ◌≤◌, ℕ, Some, List, ◌++◌, length, map, take, drop, get_or, subst, sym, ap, ◌∙◌, arith, Fits, w32}
+use Rattle.std.proofs.Common.{◌≡◌, ◌+◌, ◌<◌, ℕ, Some, List, ◌++◌, length, map, take, drop, get_or, subst, sym, ap, ◌∙◌, arith}
 use Rattle.std.specs.List.{slice_get, slice_index}
 use Rattle.std.proofs.lemmas.Option.{slice_get-get_or}
 use Rattle.std.proofs.lemmas.List.Elements.{All-get_or}
 use Rattle.campl_plug.specs.declared.plug.Link.{Link}
-use Rattle.campl_plug.specs.Links.{IsPart, IsWithin}
+use Rattle.campl_plug.specs.Links.{IsWithin}
 use Rattle.campl_plug.specs.Labels.{relabel_of}
 use Rattle.campl_plug.proofs.Places.{seam}
 use Rattle.campl_plug.proofs.Cycles.{FreeSoFar, label-read, free-first, free-closes, free-place, free-more, free-last}
@@ -27,13 +27,13 @@ loop-place-preserved c =
     let to : c.index-to.result.now ≡ slice_index labels l.b = label-read c.args.parts labels c.loop-place.invariant.size l.b w.b_part c.index-to.result.now c.index-to.ensures in
     let size : c.loop-place.labels.len ≡ length c.relabel.new.labels = omega (arith, c.deref_mut.ensures.len, c.relabel.auto.labels) in
     let is : take c.loop-place.labels.len (c.relabel.new.labels ++ drop (length c.relabel.new.labels) labels) ≡ map (relabel_of (slice_index labels l.a) (slice_index labels l.b)) labels =
-        seam c.loop-place.labels.len c.relabel.new.labels (drop (length c.relabel.new.labels) labels) size
-        ∙ (c.relabel.ensures
-        ∙ (ap (λ z. map (relabel_of z c.index-to.result.now) c.deref_mut.result.now) from
-        ∙ (ap (λ z. map (relabel_of (slice_index labels l.a) z) c.deref_mut.result.now) to
-        ∙ ap (λ zs. map (relabel_of (slice_index labels l.a) (slice_index labels l.b)) zs) c.deref_mut.ensures.value))) in
+    seam c.loop-place.labels.len c.relabel.new.labels (drop (length c.relabel.new.labels) labels) size
+    ∙ (c.relabel.ensures
+    ∙ (ap (λ z. map (relabel_of z c.index-to.result.now) c.deref_mut.result.now) from
+    ∙ (ap (λ z. map (relabel_of (slice_index labels l.a) z) c.deref_mut.result.now) to
+    ∙ ap (λ zs. map (relabel_of (slice_index labels l.a) (slice_index labels l.b)) zs) c.deref_mut.ensures.value))) in
     subst (FreeSoFar c.args.parts links (c.loop-place.place + 1)) (sym is)
-      (free-more c.args.parts links c.loop-place.place labels c.loop-place.invariant l at w (λ e. c.if-from-to.false (from ∙ (e ∙ sym to))))
+    (free-more c.args.parts links c.loop-place.place labels c.loop-place.invariant l at w (λ e. c.if-from-to.false (from ∙ (e ∙ sym to))))
 
 pub overflow_cast-result : goal.overflow_cast-result
 unfolding none

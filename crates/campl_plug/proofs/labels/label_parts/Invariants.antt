@@ -1,4 +1,3 @@
-use Rattle.std.proofs.Common.{◌≡◌, ◌+◌, take}
 use Rattle.campl_plug.proofs.Cycles.{FreeSoFar}
 use Rattle.campl_plug.proofs.labels.label_parts.Given as goal
 

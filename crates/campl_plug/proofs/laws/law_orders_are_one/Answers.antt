@@ -1,4 +1,3 @@
-use Rattle.std.proofs.Common.{◌≡◌, ℕ, List}
 use Rattle.std.proofs.lemmas.List.Elements.{recursion_from_All}
 use Rattle.campl_plug.specs.Links.{IsWithin}
 use Rattle.campl_plug.proofs.OneOrder.{one-order}

@@ -1,8 +1,8 @@
-use Rattle.std.proofs.Common.{◌≡◌, ◌+◌, ◌<◌, ◌≤◌, ℕ, suc, Some, List, [], ◌∷◌, ◌++◌, length, subst, sym, ap, ◌∙◌, refl, arith, add-one, get_or}
+use Rattle.std.proofs.Common.{◌≡◌, ◌+◌, ◌<◌, ◌≤◌, ℕ, Some, List, [], ◌∷◌, ◌++◌, length, subst, sym, ap, ◌∙◌, arith, add-one}
 use Rattle.std.specs.List.{slice_get}
 use Rattle.std.proofs.lemmas.Option.{slice_get-get_or}
 use Rattle.std.proofs.lemmas.List.Elements.{recursion_from_All}
-use Rattle.campl_plug.specs.Links.{IsWithin, Linked, IsPart}
+use Rattle.campl_plug.specs.Links.{IsWithin}
 use Rattle.campl_plug.specs.Search.{AreNewNeighbours}
 use Rattle.campl_plug.proofs.Paths.{linked-parts}
 use Rattle.campl_plug.proofs.Searched.{Searched, AreSearched, once-length, searched-first, search-is-breadth-first, searched-more}
@@ -22,9 +22,9 @@ loop-next-preserved c =
     let new : AreNewNeighbours c.args.parts c.args.links.now order c.index.result.now c.in_ok-found.found.items = subst (λ xs. AreNewNeighbours c.args.parts c.args.links.now xs c.index.result.now c.in_ok-found.found.items) c.deref.ensures.value c.in_ok-found.ensures in
     let e : c.extend_from_slice.new.self.items ≡ order ++ c.in_ok-found.found.items = c.in_ok-extend_from_slice.ensures.items ∙ ap (λ xs. order ++ xs) c.deref-in-loop-next.ensures.value in
     subst (AreSearched c.args.parts c.args.links.now (c.loop-next.next + 1)) (sym e)
-      (subst (λ n. AreSearched c.args.parts c.args.links.now n (order ++ c.in_ok-found.found.items)) (sym (add-one c.loop-next.next))
-        (searched-more c.args.parts c.args.links.now c.loop-next.next order up s c.index.result.now at c.in_ok-found.found.items new
-          (λ q r l. (linked-parts c.args.parts c.args.links.now (recursion_from_All (IsWithin c.args.parts) c.args.links.now c.requires.within) q r l).1)))
+    (subst (λ n. AreSearched c.args.parts c.args.links.now n (order ++ c.in_ok-found.found.items)) (sym (add-one c.loop-next.next))
+    (searched-more c.args.parts c.args.links.now c.loop-next.next order up s c.index.result.now at c.in_ok-found.found.items new
+    (λ q r l. (linked-parts c.args.parts c.args.links.now (recursion_from_All (IsWithin c.args.parts) c.args.links.now c.requires.within) q r l).1)))
 
 pub loop-next-smaller : goal.loop-next-smaller
 loop-next-smaller c =

@@ -1,11 +1,11 @@
-use Rattle.std.proofs.Common.{◌≡◌, ◌+◌, ◌<◌, ◌≤◌, ℕ, Some, None, List, length, length-set, get_or, set, true, refl, subst, sym, ap, ◌∙◌, arith}
+use Rattle.std.proofs.Common.{◌≡◌, Some, List, length-set, get_or, true, refl, ◌∙◌, arith}
 use Rattle.std.specs.List.{slice_get}
 use Rattle.std.proofs.lemmas.Option.{slice_get-get_or}
 use Rattle.std.proofs.lemmas.List.Elements.{All-get_or}
 use Rattle.campl_plug.specs.declared.plug.Link.{Link}
 use Rattle.campl_plug.specs.Links.{IsPart, IsWithin, Joins}
 use Rattle.campl_plug.proofs.Paths.{joins-parts}
-use Rattle.campl_plug.proofs.Marks.{AreMarked, marked-none, marked-same, marked-more}
+use Rattle.campl_plug.proofs.Marks.{marked-same, marked-more}
 use Rattle.campl_plug.proofs.search.mark_linked.Goals as goal
 use Rattle.campl_plug.proofs.search.mark_linked.Goals.{in-Some, in_default}
 
@@ -34,10 +34,10 @@ loop-link-preserved c =
           let e : IsPart c.args.parts b.in-Some.end = (joins-parts c.args.parts l c.args.part b.in-Some.end w ((b.in-Some.ensures b.in-Some.end).0 refl)).1 in
           rw b.marks-is (record {
             size = length-set c.loop-link.marks.items b.in-Some.end true ∙ c.loop-link.invariant.size;
-            marked = marked-more links c.loop-link.link-index c.args.part l at c.loop-link.marks.items c.loop-link.invariant.marked b.in-Some.end (omega (arith, e.high, c.loop-link.invariant.size)) b.in-Some.ensures
+            marked = marked-more links c.loop-link.link-index c.args.part l at c.loop-link.marks.items c.loop-link.invariant.marked b.in-Some.end (omega (arith, e.high, c.loop-link.invariant.size)) b.in-Some.ensures;
           })
       | in_default b ↦ rw b.marks-is (record {
-          size = c.loop-link.invariant.size;
-          marked = marked-same links c.loop-link.link-index c.args.part l at c.loop-link.marks.items c.loop-link.invariant.marked b.in_default.ensures
-        })
+        size = c.loop-link.invariant.size;
+        marked = marked-same links c.loop-link.link-index c.args.part l at c.loop-link.marks.items c.loop-link.invariant.marked b.in_default.ensures;
+      })
     ]

@@ -6,5 +6,5 @@ use Rattle.campl_plug.proofs.search.mark_linked.Given as goal
 abbrev pub invariant-loop-link : goal.invariant-loop-link
 invariant-loop-link l = record {
   size : length l.marks.items ≡ l.parts + 1;
-  marked : AreMarked l.marks.items l.links l.link-index l.part
+  marked : AreMarked l.marks.items l.links l.link-index l.part;
 }

@@ -1,5 +1,3 @@
-use Rattle.std.proofs.Common.{◌≡◌, ◌<◌, ◌⊎◌, ℕ, Some, slice_get}
-use Rattle.campl_plug.specs.Links.{IsPart, Linked}
 use Rattle.campl_plug.proofs.Found.{FoundBelow}
 use Rattle.campl_plug.proofs.search.new_neighbours.Given as goal
 
