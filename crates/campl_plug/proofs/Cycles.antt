@@ -1,15 +1,15 @@
 -- The labels of the links so far, and the first link that closes a cycle.
-use Rattle.std.proofs.Common.{◌≡◌, ◌≢◌, ℕ, zero, suc, ◌+◌, ◌<◌, ◌≤◌, ◌⊎◌, inl, inr, Bool, true, false, eqb, if◌then◌else◌, List, [], ◌∷◌, ◌++◌, Option, Some, None, length, get_or, map, take, take_all, refl, sym, ap, subst, ◌∙◌, arith, length-append, add-one, eq-eqb}
-use Rattle.std.proofs.lemmas.List.{get_or-map, length-map}
-use Rattle.std.specs.List.{slice_get, slice_index, AllByRecursion}
+use Rattle.std.proofs.Common.{◌≡◌, ℕ, zero, suc, ◌+◌, ◌<◌, ◌≤◌, inl, inr, List, [], ◌∷◌, ◌++◌, Some, length, get_or, map, take, take_all, refl, sym, subst, ◌∙◌, arith, add-one, eq-eqb}
+use Rattle.std.proofs.lemmas.List.{length-map}
+use Rattle.std.specs.List.{slice_get, slice_index}
 use Rattle.campl_plug.specs.declared.plug.Link.{Link}
-use Rattle.campl_plug.specs.Links.{IsPart, IsWithin, Joins, Linked, Joined}
-use Rattle.campl_plug.specs.Tree.{AreReached, IsTree, ClosesCycle, HasNoCycle, IsFirstCycle, IsLeastApart}
+use Rattle.campl_plug.specs.Links.{IsPart, IsWithin, Joined}
+use Rattle.campl_plug.specs.Tree.{AreReached, ClosesCycle, HasNoCycle, IsFirstCycle, IsLeastApart}
 use Rattle.campl_plug.specs.Labels.{IsLabelling, AreLabels, relabel_of}
-use Rattle.campl_plug.proofs.Places.{get-there, get-within, get-any, get-one, take-one-more}
+use Rattle.campl_plug.proofs.Places.{get-within, get-any, get-one, take-one-more}
 use Rattle.campl_plug.proofs.Paths.{joined-labels}
-use Rattle.campl_plug.proofs.Tests.{split, same-eqb, apart-eqb, passing, passing-same, passing-some}
-use Rattle.campl_plug.proofs.Labelled.{is_root, own-labelling, own-roots, same-labelling, new-labelling, new-roots}
+use Rattle.campl_plug.proofs.Counts.{same-eqb, apart-eqb, passing, passing-some}
+use Rattle.campl_plug.proofs.Labelled.{is_root, own-labelling, own-roots, new-labelling, new-roots}
 
 -- a label that is read
 pub label-read : (k : ℕ) (labels : List ℕ) → length labels ≡ k + 1 → (p : ℕ) → IsPart k p → (x : ℕ) → x ≡ get_or labels p x → x ≡ slice_index labels p

@@ -1,9 +1,9 @@
 -- Worked plugs.
-use Rattle.std.proofs.Common.{◌≡◌, ℕ, zero, suc, ◌+◌, ◌<◌, ◌≤◌, ◌⊎◌, inl, inr, eqb, if◌then◌else◌, List, [], ◌∷◌, Option, Some, None, length, refl, sym, ap, subst, ◌∙◌, arith}
+use Rattle.std.proofs.Common.{◌≡◌, ℕ, zero, suc, ◌<◌, ◌≤◌, ◌⊎◌, inl, inr, eqb, if◌then◌else◌, List, [], ◌∷◌, Some, refl, sym, ap, subst, ◌∙◌, arith}
 use Rattle.std.specs.List.{slice_get}
 use Rattle.campl_plug.specs.declared.plug.Link.{Link}
 use Rattle.campl_plug.specs.Links.{IsPart, Joins, Linked, Path, Joined}
-use Rattle.campl_plug.specs.Tree.{AreReached, IsTree, ClosesCycle, HasNoCycle, IsFirstCycle, IsLeastApart}
+use Rattle.campl_plug.specs.Tree.{AreReached, IsTree, ClosesCycle, IsFirstCycle, IsLeastApart}
 use Rattle.campl_plug.specs.Order.{IsBefore, IsBreadthFirst}
 use Rattle.campl_plug.specs.Labels.{relabel_of}
 use Rattle.campl_plug.proofs.Paths.{joined-labels}
@@ -79,18 +79,18 @@ rises (suc i) (suc j) p q h g = inl (omega (arith, g))
 -- the neighbours of the part at each place
 beside : (i p q : ℕ) → slice_get order i ≡ Some p → Linked chain p q → (j : ℕ) × (slice_get order j ≡ Some q) × (0 < j → up j ≤ i)
 beside zero p q e (inl (inl (a, b))) = (1, ap Some b, λ h. omega arith)
-beside zero p q e (inl (inr (a, b))) = absurd (let x : 1 ≡ 3 = cc in omega (arith, x))
-beside zero p q e (inr (inl (inl (a, b)))) = absurd (let x : 1 ≡ 3 = cc in omega (arith, x))
-beside zero p q e (inr (inl (inr (a, b)))) = absurd (let x : 1 ≡ 2 = cc in omega (arith, x))
+beside zero p q e (inl (inr (a, b))) = absurd (let x : 1 ≡ p = cc in omega (arith, x, b))
+beside zero p q e (inr (inl (inl (a, b)))) = absurd (let x : 1 ≡ p = cc in omega (arith, x, a))
+beside zero p q e (inr (inl (inr (a, b)))) = absurd (let x : 1 ≡ p = cc in omega (arith, x, b))
 beside zero p q e (inr (inr z)) = absurd z
-beside (suc zero) p q e (inl (inl (a, b))) = absurd (let x : 3 ≡ 1 = cc in omega (arith, x))
+beside (suc zero) p q e (inl (inl (a, b))) = absurd (let x : 3 ≡ p = cc in omega (arith, x, a))
 beside (suc zero) p q e (inl (inr (a, b))) = (0, ap Some a, λ h. omega arith)
 beside (suc zero) p q e (inr (inl (inl (a, b)))) = (2, ap Some b, λ h. omega arith)
-beside (suc zero) p q e (inr (inl (inr (a, b)))) = absurd (let x : 3 ≡ 2 = cc in omega (arith, x))
+beside (suc zero) p q e (inr (inl (inr (a, b)))) = absurd (let x : 3 ≡ p = cc in omega (arith, x, b))
 beside (suc zero) p q e (inr (inr z)) = absurd z
-beside (suc (suc zero)) p q e (inl (inl (a, b))) = absurd (let x : 2 ≡ 1 = cc in omega (arith, x))
-beside (suc (suc zero)) p q e (inl (inr (a, b))) = absurd (let x : 2 ≡ 3 = cc in omega (arith, x))
-beside (suc (suc zero)) p q e (inr (inl (inl (a, b)))) = absurd (let x : 2 ≡ 3 = cc in omega (arith, x))
+beside (suc (suc zero)) p q e (inl (inl (a, b))) = absurd (let x : 2 ≡ p = cc in omega (arith, x, a))
+beside (suc (suc zero)) p q e (inl (inr (a, b))) = absurd (let x : 2 ≡ p = cc in omega (arith, x, b))
+beside (suc (suc zero)) p q e (inr (inl (inl (a, b)))) = absurd (let x : 2 ≡ p = cc in omega (arith, x, a))
 beside (suc (suc zero)) p q e (inr (inl (inr (a, b)))) = (1, ap Some a, λ h. omega arith)
 beside (suc (suc zero)) p q e (inr (inr z)) = absurd z
 beside (suc (suc (suc i))) p q e l = absurd (let z : ⊥ = cc in z)

@@ -1,12 +1,12 @@
 -- The new neighbours of a part, found in order of their number.
-use Rattle.std.proofs.Common.{◌≡◌, ◌≢◌, ℕ, zero, suc, ◌+◌, ◌<◌, ◌≤◌, ◌⊎◌, inl, inr, Bool, true, false, eqb, ◌||◌, ◌&&◌, not, ◌↔◌, IsTrue, get_or, if◌then◌else◌, List, [], ◌∷◌, ◌++◌, Option, Some, None, length, refl, sym, ap, subst, ◌∙◌, arith, length-append}
-use Rattle.std.proofs.lemmas.Bool.{eqb-true, eqb-false, eq-eqb}
+use Rattle.std.proofs.Common.{◌≡◌, ℕ, zero, suc, ◌+◌, ◌<◌, ◌⊎◌, inl, inr, Bool, true, false, eqb, ◌&&◌, not, ◌↔◌, IsTrue, get_or, List, [], ◌∷◌, ◌++◌, Some, length, sym, ap, subst, ◌∙◌, arith}
+use Rattle.std.proofs.lemmas.Bool.{eqb-true, eq-eqb}
 use Rattle.std.specs.List.{slice_get, list_any}
 use Rattle.campl_plug.specs.declared.plug.Link.{Link}
 use Rattle.campl_plug.specs.Links.{IsPart, Linked}
 use Rattle.campl_plug.specs.Search.{AreNewNeighbours}
-use Rattle.campl_plug.proofs.Places.{get-front, get-back, get-split, get-within}
-use Rattle.campl_plug.proofs.Tests.{split, same-eqb, apart-eqb}
+use Rattle.campl_plug.proofs.Places.{get-front, get-back, get-split}
+use Rattle.campl_plug.proofs.Counts.{split, same-eqb}
 
 -- of the new neighbours those below a bound are found
 pub record FoundBelow (k : ℕ) (links : List Link) (order : List ℕ) (p bound : ℕ) (found : List ℕ) : Type 0 where

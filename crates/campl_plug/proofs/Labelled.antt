@@ -1,11 +1,11 @@
 -- What one more link makes of a labelling.
-use Rattle.std.proofs.Common.{◌≡◌, ◌≢◌, ℕ, zero, suc, ◌+◌, ◌<◌, ◌≤◌, ◌⊎◌, inl, inr, Bool, true, false, eqb, if◌then◌else◌, List, [], ◌∷◌, ◌++◌, refl, sym, ap, subst, ◌∙◌, arith}
-use Rattle.std.proofs.lemmas.Bool.{eqb-true, eqb-false, eq-eqb}
+use Rattle.std.proofs.Common.{◌≡◌, ℕ, zero, suc, inl, inr, Bool, true, eqb, List, [], ◌∷◌, ◌++◌, refl, sym, ap, subst, ◌∙◌}
+use Rattle.std.proofs.lemmas.Bool.{eq-eqb}
 use Rattle.campl_plug.specs.declared.plug.Link.{Link}
-use Rattle.campl_plug.specs.Links.{IsPart, IsWithin, Joins, Linked, Path, Joined}
+use Rattle.campl_plug.specs.Links.{IsPart, IsWithin, Linked, Joined}
 use Rattle.campl_plug.specs.Labels.{IsLabelling, relabel_of}
-use Rattle.campl_plug.proofs.Paths.{linked-front, linked-back, linked-last, linked-turned, joined-one, joined-on, joined-turned, joined-front, joined-here}
-use Rattle.campl_plug.proofs.Tests.{split, apart-eqb, same-eqb, passing, passing-same, passing-more, passing-all}
+use Rattle.campl_plug.proofs.Paths.{linked-back, linked-last, joined-one, joined-on, joined-turned, joined-front}
+use Rattle.campl_plug.proofs.Counts.{apart-eqb, same-eqb, passing, passing-same, passing-more, passing-all}
 
 -- the part has itself for its label
 abbrev pub is_root : (ℕ → ℕ) → ℕ → Bool

@@ -1,6 +1,6 @@
 pub mod Places
 pub mod Paths
-pub mod Tests
+pub mod Counts
 pub mod Labelled
 pub mod Trees
 pub mod Searched

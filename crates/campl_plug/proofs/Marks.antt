@@ -1,11 +1,11 @@
 -- Marks of the parts that links join to a part.
-use Rattle.std.proofs.Common.{◌≡◌, ◌≢◌, ℕ, zero, suc, ◌+◌, ◌<◌, ◌≤◌, ◌⊎◌, ◌↔◌, inl, inr, Bool, true, false, IsTrue, List, [], ◌∷◌, ◌++◌, Option, Some, None, length, get_or, set, take, replicate, refl, sym, ap, subst, ◌∙◌, arith, add-one, get_or-set_other, get_or-set_same}
+use Rattle.std.proofs.Common.{◌≡◌, ℕ, zero, suc, ◌+◌, ◌<◌, ◌⊎◌, ◌↔◌, inl, inr, Bool, true, false, IsTrue, List, [], ◌∷◌, ◌++◌, Some, None, length, get_or, set, take, replicate, refl, sym, ap, subst, ◌∙◌, add-one, get_or-set_other, get_or-set_same}
 use Rattle.std.specs.List.{slice_get}
 use Rattle.campl_plug.specs.declared.plug.Link.{Link}
 use Rattle.campl_plug.specs.Links.{Joins, Linked}
 use Rattle.campl_plug.proofs.Places.{take-one-more}
 use Rattle.campl_plug.proofs.Paths.{linked-front, linked-back, linked-last}
-use Rattle.campl_plug.proofs.Tests.{same-eqb}
+use Rattle.campl_plug.proofs.Counts.{same-eqb}
 
 -- marked are the parts that the first i links join to p
 abbrev pub AreMarked : List Bool → List Link → ℕ → ℕ → Type 0

@@ -1,11 +1,11 @@
 -- There is at most one fault beside want of memory, and a tree has none.
-use Rattle.std.proofs.Common.{◌≡◌, ◌≢◌, ℕ, ◌<◌, ◌≤◌, ◌⊎◌, inl, inr, List, refl, sym, ap, arith}
+use Rattle.std.proofs.Common.{◌≡◌, ℕ, ◌≤◌, inl, inr, List, refl, ap}
 use Rattle.std.specs.List.{AllByRecursion}
 use Rattle.campl_plug.specs.declared.plug.Link.{Link}
 use Rattle.campl_plug.specs.declared.plug.PlugFault.{PlugFault}
 use Rattle.campl_plug.specs.declared.plug.PlugFault.TheVariants.{Cycle, Apart, OutOfMemory}
 use Rattle.campl_plug.specs.Links.{IsWithin}
-use Rattle.campl_plug.specs.Tree.{IsTree, HasNoCycle, IsFirstCycle, IsLeastApart}
+use Rattle.campl_plug.specs.Tree.{IsTree}
 use Rattle.campl_plug.specs.Faults.{IsFaultOf}
 use Rattle.campl_plug.proofs.Trees.{tree-has-no-cycle}
 use Rattle.campl_plug.proofs.Peeled.{order-cases}

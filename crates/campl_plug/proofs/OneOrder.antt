@@ -1,12 +1,12 @@
 -- There is one breadth-first order of a tree.
-use Rattle.std.proofs.Common.{◌≡◌, ◌≢◌, ℕ, zero, suc, ◌+◌, ◌<◌, ◌≤◌, ◌⊎◌, inl, inr, List, [], ◌∷◌, Option, Some, None, length, refl, sym, ap, subst, ◌∙◌, arith, add-one}
+use Rattle.std.proofs.Common.{◌≡◌, ℕ, zero, suc, ◌+◌, ◌<◌, ◌≤◌, ◌⊎◌, inl, inr, List, Some, None, length, sym, ap, subst, ◌∙◌, arith}
 use Rattle.std.specs.List.{slice_get, AllByRecursion}
 use Rattle.campl_plug.specs.declared.plug.Link.{Link}
-use Rattle.campl_plug.specs.Links.{IsPart, IsWithin}
+use Rattle.campl_plug.specs.Links.{IsWithin}
 use Rattle.campl_plug.specs.Tree.{IsTree}
-use Rattle.campl_plug.specs.Order.{IsDistance, IsPredecessor, IsBefore, IsNearer, AreAsNear, HasEarlierPredecessor, HasLowerNumber, ComesFirst, IsBreadthFirst}
+use Rattle.campl_plug.specs.Order.{IsDistance, IsPredecessor, IsBefore, HasEarlierPredecessor, HasLowerNumber, ComesFirst, IsBreadthFirst}
 use Rattle.campl_plug.proofs.Places.{get-there, get-within, get-one, get-cases, same-places}
-use Rattle.campl_plug.proofs.Peeled.{order-cases, one-distance, distances, no-farther, not-both, has-distance, one-predecessor}
+use Rattle.campl_plug.proofs.Peeled.{order-cases, one-distance, no-farther, not-both, has-distance, one-predecessor}
 
 module _ (k : ℕ) (links : List Link) (within : AllByRecursion (IsWithin k) links) (some : 1 ≤ k) (tree : IsTree k links)
     (o1 o2 : List ℕ) (b1 : IsBreadthFirst k links o1) (b2 : IsBreadthFirst k links o2) where

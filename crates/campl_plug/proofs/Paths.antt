@@ -1,5 +1,5 @@
 -- Paths of links.
-use Rattle.std.proofs.Common.{◌≡◌, ◌≢◌, ℕ, zero, suc, ◌+◌, ◌<◌, ◌≤◌, ◌⊎◌, inl, inr, List, [], ◌∷◌, ◌++◌, Option, Some, None, length, take, refl, sym, ap, subst, ◌∙◌, arith}
+use Rattle.std.proofs.Common.{◌≡◌, ℕ, zero, suc, ◌⊎◌, inl, inr, List, [], ◌∷◌, ◌++◌, Some, take, refl, sym, ap, subst, ◌∙◌}
 use Rattle.std.specs.List.{slice_get, AllByRecursion}
 use Rattle.campl_plug.specs.declared.plug.Link.{Link}
 use Rattle.campl_plug.specs.Links.{IsPart, IsWithin, Joins, Linked, Path, Joined}

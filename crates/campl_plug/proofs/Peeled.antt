@@ -1,13 +1,13 @@
 -- In the breadth-first order each part but the first has one link to those before it.
-use Rattle.std.proofs.Common.{◌≡◌, ◌≢◌, ℕ, zero, suc, ◌+◌, ◌<◌, ◌≤◌, ◌⊎◌, inl, inr, List, [], ◌∷◌, Option, Some, None, length, refl, sym, ap, subst, ◌∙◌, arith, add-one}
+use Rattle.std.proofs.Common.{◌≡◌, ℕ, zero, suc, ◌+◌, ◌<◌, ◌≤◌, ◌⊎◌, inl, inr, List, [], ◌∷◌, Some, length, refl, sym, ap, subst, ◌∙◌, arith, add-one}
 use Rattle.std.specs.List.{slice_get, AllByRecursion}
 use Rattle.campl_plug.specs.declared.plug.Link.{Link}
-use Rattle.campl_plug.specs.Links.{IsPart, IsWithin, Joins, Linked, Path, Joined}
-use Rattle.campl_plug.specs.Tree.{AreReached, IsTree}
+use Rattle.campl_plug.specs.Links.{IsPart, IsWithin, Joins, Path, Joined}
+use Rattle.campl_plug.specs.Tree.{IsTree}
 use Rattle.campl_plug.specs.Order.{IsDistance, IsPredecessor, IsBefore, ComesFirst, IsBreadthFirst, IsLinkBack, HasOneLinkBack}
 use Rattle.campl_plug.proofs.Places.{get-there, get-one}
 use Rattle.campl_plug.proofs.Paths.{linked-parts, at-linked, joined-here, joined-more}
-use Rattle.campl_plug.proofs.Tests.{same-eqb}
+use Rattle.campl_plug.proofs.Counts.{same-eqb}
 use Rattle.campl_plug.proofs.Trees.{without, linked-without, none-spared}
 
 pub order-cases : (i j : ℕ) → (i < j) ⊎ ((i ≡ j) ⊎ (j < i))

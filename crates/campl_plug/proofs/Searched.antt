@@ -1,15 +1,14 @@
 -- The search: what its order is like after each step, and at the end.
-use Rattle.std.proofs.Common.{◌≡◌, ◌≢◌, ℕ, zero, suc, ◌+◌, ◌<◌, ◌≤◌, ◌⊎◌, inl, inr, Bool, true, false, eqb, ltb, if◌then◌else◌, List, [], ◌∷◌, ◌++◌, Option, Some, None, length, refl, sym, ap, subst, ◌∙◌, arith, length-append}
-use Rattle.std.proofs.lemmas.Bool.{eqb-true, eqb-false, eq-eqb}
-use Rattle.std.specs.List.{slice_get, AllByRecursion}
+use Rattle.std.proofs.Common.{◌≡◌, ℕ, zero, suc, ◌+◌, ◌<◌, ◌≤◌, ◌⊎◌, inl, inr, Bool, true, false, eqb, ltb, if◌then◌else◌, List, [], ◌∷◌, ◌++◌, Some, length, refl, sym, ap, subst, arith, length-append}
+use Rattle.std.proofs.lemmas.Bool.{eq-eqb}
+use Rattle.std.specs.List.{slice_get}
 use Rattle.campl_plug.specs.declared.plug.Link.{Link}
-use Rattle.campl_plug.specs.Links.{IsPart, IsWithin, Joins, Linked, Path, Joined}
+use Rattle.campl_plug.specs.Links.{IsPart, Linked, Path}
 use Rattle.campl_plug.specs.Tree.{AreReached}
-use Rattle.campl_plug.specs.Order.{IsDistance, IsPredecessor, IsBefore, IsNearer, AreAsNear, HasEarlierPredecessor, HasLowerNumber, ComesFirst, IsBreadthFirst}
+use Rattle.campl_plug.specs.Order.{IsDistance, IsPredecessor, IsBefore, ComesFirst, IsBreadthFirst}
 use Rattle.campl_plug.specs.Search.{AreNewNeighbours}
 use Rattle.campl_plug.proofs.Places.{get-front, get-back, get-split, get-there, get-within, get-one}
-use Rattle.campl_plug.proofs.Paths.{linked-parts}
-use Rattle.campl_plug.proofs.Tests.{split, same-eqb, apart-eqb, passing, passing-same, passing-more, passing-none, passing-within}
+use Rattle.campl_plug.proofs.Counts.{split, same-eqb, apart-eqb, passing, passing-more, passing-none, passing-within}
 
 -- the search has been through the first n parts of its order; the part at place j came by the one at place up j
 pub record Searched (k : ℕ) (links : List Link) (n : ℕ) (order : List ℕ) (up : ℕ → ℕ) : Type 0 where

@@ -1,14 +1,14 @@
 -- How many links join the parts.
-use Rattle.std.proofs.Common.{◌≡◌, ◌≢◌, ℕ, zero, suc, ◌+◌, ◌<◌, ◌≤◌, ◌⊎◌, inl, inr, Bool, true, false, eqb, List, [], ◌∷◌, ◌++◌, Option, Some, None, length, take, take_all, refl, sym, ap, subst, ◌∙◌, arith}
-use Rattle.std.proofs.lemmas.Bool.{eqb-true, eqb-false, eq-eqb}
+use Rattle.std.proofs.Common.{◌≡◌, ℕ, zero, suc, ◌+◌, ◌≤◌, ◌⊎◌, inl, inr, false, List, [], ◌∷◌, ◌++◌, Some, length, take, take_all, refl, sym, ap, subst, ◌∙◌, arith}
+use Rattle.std.proofs.lemmas.Bool.{eq-eqb}
 use Rattle.std.specs.List.{slice_get, AllByRecursion}
 use Rattle.campl_plug.specs.declared.plug.Link.{Link}
-use Rattle.campl_plug.specs.Links.{IsPart, IsWithin, Joins, Linked, Path, Joined}
-use Rattle.campl_plug.specs.Tree.{AreReached, IsTree, ClosesCycle, HasNoCycle}
+use Rattle.campl_plug.specs.Links.{IsPart, IsWithin, Joins, Linked, Joined}
+use Rattle.campl_plug.specs.Tree.{AreReached, IsTree, HasNoCycle}
 use Rattle.campl_plug.specs.Labels.{IsLabelling, relabel_of}
 use Rattle.campl_plug.proofs.Places.{get-there, get-one, take-one-more}
-use Rattle.campl_plug.proofs.Paths.{linked-at, at-linked, within-at, joins-turned, joined-one, joined-here, joined-turned, joined-into, joined-labels}
-use Rattle.campl_plug.proofs.Tests.{apart-eqb, same-eqb, passing, passing-same, passing-more, passing-none, passing-all}
+use Rattle.campl_plug.proofs.Paths.{linked-at, at-linked, within-at, joined-one, joined-turned, joined-into, joined-labels}
+use Rattle.campl_plug.proofs.Counts.{apart-eqb, same-eqb, passing, passing-more, passing-none}
 use Rattle.campl_plug.proofs.Labelled.{is_root, own-labelling, own-roots, same-labelling, new-labelling, new-roots}
 
 -- the links leave c groups of joined parts
