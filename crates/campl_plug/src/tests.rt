@@ -1,10 +1,24 @@
 //! Worked plugs, with ample memory.
+ghost use Rattle.std.specs.Prelude.{All, IsTrue};
+ghost use Rattle.campl_plug.specs.Links.{IsWithin};
 
 use crate::{Link, PlugFault, tree_order};
 use std::test::Fail;
 
 const fn link(a: u32, b: u32) -> Link {
     Link { a, b }
+}
+
+fn is_within(parts: u32, link: &Link) -> bool
+    ensures { IsTrue result → IsWithin parts link.now }
+{
+    1 <= link.a && link.a <= parts && 1 <= link.b && link.b <= parts
+}
+
+fn are_within(parts: u32, links: &[Link]) -> bool
+    ensures { IsTrue result → All (IsWithin parts) links.now }
+{
+    links.iter().all(|link| is_within(parts, link))
 }
 
 #[test]
@@ -26,6 +40,7 @@ fn trees_have_a_breadth_first_order(rt: HostRuntime) -> Result<(), Fail> {
         ),
     ];
     for (parts, links, want) in table {
+        assert!(rt; parts >= 1 && are_within(parts, links));
         match tree_order(rt.alloc(), parts, links) {
             Ok(order) => assert!(rt; order.as_slice() == want, "of {links:?}"),
             Err(fault) => assert!(rt; false, "{fault:?} of {links:?}"),
@@ -50,6 +65,7 @@ fn others_have_a_fault(rt: HostRuntime) -> Result<(), Fail> {
         ),
     ];
     for (parts, links, want) in table {
+        assert!(rt; parts >= 1 && are_within(parts, links));
         match tree_order(rt.alloc(), parts, links) {
             Ok(order) => assert!(rt; false, "{order:?} of {links:?}"),
             Err(fault) => assert!(rt; fault == want, "{fault:?} of {links:?}"),
