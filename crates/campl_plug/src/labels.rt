@@ -1,7 +1,7 @@
 //! Each part has a label, which a link gives to all parts that it joins.
-ghost use Rattle.std.specs.Prelude.{◌≡◌, ◌+◌, ◌<◌, ℕ, All, IfOk, IfErr, IfSome, IfNone, MatchOption, length, map, slice_index};
+ghost use Rattle.std.specs.Prelude.{◌≡◌, ◌+◌, ◌<◌, ℕ, All, IfOk, IfErr, IfSome, IfNone, length, map, slice_index};
 ghost use Rattle.campl_plug.specs.Links.{IsPart, IsWithin};
-ghost use Rattle.campl_plug.specs.Tree.{AreReached, HasNoCycle, IsLeastApart};
+ghost use Rattle.campl_plug.specs.Tree.{HasNoCycle};
 ghost use Rattle.campl_plug.specs.Faults.{IsFaultOf};
 ghost use Rattle.campl_plug.specs.Labels.{AreLabels, relabel_of};
 

@@ -1,5 +1,5 @@
 //! The breadth-first search from part 1.
-ghost use Rattle.std.specs.Prelude.{◌≡◌, ◌+◌, ◌<◌, ◌≤◌, ◌↔◌, ℕ, All, IfOk, IsTrue, length, slice_index_or, Bool, Some, false, not, ◌&&◌, ◌==◌};
+ghost use Rattle.std.specs.Prelude.{◌≡◌, ◌+◌, ◌<◌, ◌≤◌, ◌↔◌, ℕ, All, IfOk, IsTrue, length, slice_index_or, Some, false, not, ◌&&◌, ◌==◌};
 ghost use Rattle.std.specs.List.{list_any};
 ghost use Rattle.campl_plug.specs.Links.{IsWithin, Joins, Linked};
 ghost use Rattle.campl_plug.specs.Tree.{AreReached};
@@ -51,7 +51,8 @@ fn new_neighbours(
 
 fn is_new_neighbour(is_linked: &[bool], order: &[u32], candidate: u32) -> bool
     requires { candidate < length is_linked.now }
-    ensures { result ≡ (slice_index_or is_linked.now candidate false && not (list_any (λ x. x == candidate) order.now)) }
+    ensures { result ≡ (slice_index_or is_linked.now candidate false
+        && not (list_any (λ x. x == candidate) order.now)) }
 {
     is_linked[candidate as usize] && !order.contains(&candidate)
 }
@@ -65,7 +66,8 @@ fn mark_linked(
 ) -> Result<Vec<bool>, AllocError>
     requires { All (IsWithin parts) links.now }
     ensures size { IfOk result (λ marks. length marks.items ≡ parts + 1) }
-    ensures marked { IfOk result (λ marks. (q : ℕ) → IsTrue (slice_index_or marks.items q false) ↔ Linked links.now part q) }
+    ensures marked { IfOk result (λ marks. (q : ℕ)
+        → IsTrue (slice_index_or marks.items q false) ↔ Linked links.now part q) }
 {
     let mut marks = vec![in alloc; false; parts as usize + 1]?;
     for link in links {

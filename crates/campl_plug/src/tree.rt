@@ -15,8 +15,8 @@ use std::alloc::Global;
 ///
 /// `Cycle` names the first link, from 0, whose two parts are joined by links before it or are the same
 /// part. `Apart` comes where no link closes a cycle, and names the least part that isn't reached from
-/// part 1. `OutOfMemory` may come at any time. The time grows as the square of `parts`, and the memory as
-/// `parts`: a list with more links than parts closes a cycle by then.
+/// part 1. `OutOfMemory` comes where memory is short. The time grows as the square of `parts`, as one of the
+/// first `parts` links closes a cycle where there are so many, and the memory as `parts`.
 pub fn tree_order(alloc: Global, parts: u32, links: &[Link]) -> Result<Vec<u32>, PlugFault>
     requires some { 1 ≤ parts }
     requires within { All (IsWithin parts) links.now }
