@@ -1,0 +1,6 @@
+pub mod Links
+pub mod Tree
+pub mod Order
+pub mod Faults
+pub mod Labels
+pub mod Search
