@@ -30,6 +30,13 @@ impl Shown {
         let chars = text.chars().collect(alloc)?;
         Ok(Shown { chars })
     }
+
+    /// What these characters show.
+    pub fn from_chars(chars: Vec<char>) -> Shown
+        ensures { result ≡ chars.entry.items }
+    {
+        Shown { chars }
+    }
 }
 
 impl fmt::Display for Shown {
