@@ -13,7 +13,8 @@ use Rattle.campl_tree.specs.Plain.ChanType.{ChanType, Put, Get, Tensor, Par, Top
 use Rattle.campl_tree.specs.View.{seq_types, view_seq}
 use Rattle.campl_types.specs.Filling.{Bound, view_filling, with_type}
 use Rattle.campl_types.specs.Names.{Name, same_name, found}
-use Rattle.campl_types.specs.Polarity.{at_whole}
+use Rattle.campl_types.specs.Polarity.{at_whole, line}
+use Rattle.campl_types.specs.SameType.{nowhere}
 use Rattle.campl_types.specs.Substitution.{Filling, filling, filled, all_filled, types_of}
 use Rattle.campl_types.specs.World.{or_else, names_of}
 use Rattle.campl_types.proofs.Names.{split-names}
@@ -124,6 +125,9 @@ same-at_whole f g i own whole (Par x y) = rw (same-at_whole f g i own whole x, s
 same-at_whole f g i own whole TopBot = refl
 same-at_whole f g i own whole (Neg x) = ap Neg (same-at_whole f g i own whole x)
 same-at_whole f g i own whole (Named at x ts) = ap (λ us. if same_name x own then whole else Named at x us) (same-all_filled f g i ts)
+
+pub line-at : (f : Filling) (local name : Ident) (ps : List Ident) (ts : List SeqType) (t : ChanType) → FindSame f (filling (names_of ps) ts) → at_whole local.name (Named nowhere name.name (types_of ts)) f t ≡ line local name ps ts t
+line-at f local name ps ts t i = same-at_whole f (filling (names_of ps) ts) i local.name (Named nowhere name.name (types_of ts)) t
 
 pub ruleset filled_types = (seq_views, all_filled-types)
 
