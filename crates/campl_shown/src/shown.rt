@@ -66,7 +66,10 @@ impl Shown {
     pub fn push_str(&mut self, text: &str) -> Result<(), AllocError>
         ensures { OnOk result (self.new ≡ self.old ++ chars text.now) }
     {
-        self.chars.extend(text.chars())
+        for c in text.chars() {
+            self.push_char(c)?;
+        }
+        Ok(())
     }
 }
 

@@ -2,7 +2,7 @@
 ghost use Rattle.std.specs.Prelude.{◌≡◌, ◌++◌, codes, IfOk, OnOk, map};
 ghost use Rattle.campl_tree.specs.View.{view_seq, seq_types};
 ghost use Rattle.campl_types.specs.Filling.{view_filling};
-ghost use Rattle.campl_shown.specs.Types.{written, arguments, more_arguments, type_text, type_text_at};
+ghost use Rattle.campl_shown.specs.Types.{written, arguments, type_text, type_text_at};
 
 use crate::shown::Shown;
 use crate::variables::{Names, Types, Variables};
@@ -43,7 +43,11 @@ pub(crate) fn push_type<V: Variables>(
         SeqType::Char => text.push_str("Char"),
         SeqType::Bool => text.push_str("Bool"),
         SeqType::List(t) => push_list(text, variables, t.get()),
-        SeqType::Pair(t, u) => push_pair(text, variables, t.get(), u.get()),
+        SeqType::Pair(t, u) => {
+            text.push_char('(')?;
+            push_type(text, variables, t.get())?;
+            push_second(text, variables, u.get())
+        }
         SeqType::Named(_, x, ts) => {
             text.push_chars(x.as_slice())?;
             push_arguments(text, variables, ts.as_slice())
@@ -67,27 +71,24 @@ fn push_list<V: Variables>(
     text.push_char(']')
 }
 
-/// Puts the type of pairs behind a text.
+/// Puts what stands behind the first type of pairs behind a text.
 #[cycle(types)]
 #[tactic(auto, using(crate::proofs::Pieces::pieces))]
-fn push_pair<V: Variables>(
+fn push_second<V: Variables>(
     text: &mut Shown,
     variables: &V,
     t: &SeqType,
-    u: &SeqType,
 ) -> Result<(), AllocError>
-    ensures { OnOk result (text.new ≡ text.old ++ (codes "(" ++ written (V.spelling variables.now) (view_seq t.now) ++ codes ", " ++ written (V.spelling variables.now) (view_seq u.now) ++ codes ")")) }
+    ensures { OnOk result (text.new ≡ text.old ++ (codes ", " ++ written (V.spelling variables.now) (view_seq t.now) ++ codes ")")) }
 {
-    text.push_char('(')?;
-    push_type(text, variables, t)?;
     text.push_str(", ")?;
-    push_type(text, variables, u)?;
+    push_type(text, variables, t)?;
     text.push_char(')')
 }
 
 /// Puts arguments behind a text, in parentheses where there are any.
 #[cycle(types)]
-#[tactic(auto, using(crate::proofs::Pieces::pieces))]
+#[tactic(auto, using(crate::proofs::Pieces::arguments))]
 pub(crate) fn push_arguments<V: Variables>(
     text: &mut Shown,
     variables: &V,
@@ -95,30 +96,27 @@ pub(crate) fn push_arguments<V: Variables>(
 ) -> Result<(), AllocError>
     ensures { OnOk result (text.new ≡ text.old ++ arguments (V.spelling variables.now) (seq_types (map view_seq ts.now))) }
 {
-    match ts {
-        [] => Ok(()),
-        [first, more @ ..] => {
-            text.push_char('(')?;
-            push_type(text, variables, first)?;
-            push_more_arguments(text, variables, more)?;
-            text.push_char(')')
-        }
+    let [first, more @ ..] = ts else {
+        return Ok(());
+    };
+    text.push_char('(')?;
+    push_type(text, variables, first)?;
+    for t in more {
+        push_next(text, variables, t)?;
     }
+    text.push_char(')')
 }
 
-/// Puts the arguments behind the first behind a text.
+/// Puts an argument behind those before it.
 #[cycle(types)]
 #[tactic(auto, using(crate::proofs::Pieces::pieces))]
-fn push_more_arguments<V: Variables>(
+fn push_next<V: Variables>(
     text: &mut Shown,
     variables: &V,
-    ts: &[SeqType],
+    t: &SeqType,
 ) -> Result<(), AllocError>
-    ensures { OnOk result (text.new ≡ text.old ++ more_arguments (V.spelling variables.now) (seq_types (map view_seq ts.now))) }
+    ensures { OnOk result (text.new ≡ text.old ++ (codes ", " ++ written (V.spelling variables.now) (view_seq t.now))) }
 {
-    for t in ts {
-        text.push_str(", ")?;
-        push_type(text, variables, t)?;
-    }
-    Ok(())
+    text.push_str(", ")?;
+    push_type(text, variables, t)
 }

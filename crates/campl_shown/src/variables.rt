@@ -20,6 +20,7 @@ pub(crate) trait Variables {
 }
 
 /// Variables as their names.
+#[derive(Clone, Copy)]
 pub(crate) struct Names;
 
 impl Variables for Names {
@@ -31,6 +32,7 @@ impl Variables for Names {
 }
 
 /// Variables as what they stand for, and `_` where they stand for nothing.
+#[derive(Clone, Copy)]
 pub(crate) struct Types<'a> {
     pub(crate) filling: &'a Filling,
 }
