@@ -9,9 +9,11 @@
 //! ```
 #![tactic(auto)]
 
+mod channels;
 mod shown;
 mod types;
 mod variables;
 
+pub use channels::chan_text;
 pub use shown::Shown;
 pub use types::{type_text, type_text_at};

@@ -40,6 +40,7 @@ pub(crate) struct Types<'a> {
 impl Variables for Types<'_> {
     ghost spelling = { λ v x. or_unknown (found x (view_filling v.filling.now)) };
 
+    #[tactic(auto, using(crate::proofs::Pieces::standing))]
     fn push(&self, text: &mut Shown, name: &Name) -> Result<(), AllocError> {
         match self.filling.find(name) {
             Some(t) => push_type(text, &Names, t),
