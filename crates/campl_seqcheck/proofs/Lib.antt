@@ -1,0 +1,9 @@
+pub mod AgreesJudged
+pub mod AgreesSame
+pub mod AgreesNames
+pub mod AgreesFit
+pub mod AgreesMatch
+pub mod AgreesStable
+pub mod AgreesCalls
+pub mod AgreesWanted
+pub mod AgreesSound
