@@ -7,3 +7,4 @@ pub mod AgreesStable
 pub mod AgreesCalls
 pub mod AgreesWanted
 pub mod AgreesSound
+pub mod AgreesWorlds
