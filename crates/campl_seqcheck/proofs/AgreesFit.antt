@@ -27,7 +27,7 @@ pub record Fitted (o : Option Vars) (bound : List Name) (xs ys : Vars) : Type 0 
   pub apart : Apart bound (variable_names xs)
   pub named : (y : Name) → is_among y (variable_names zs) ≡ is_among y bound
 
-names-append : (ks ls : Vars) → variable_names (ks ++ ls) ≡ variable_names ks ++ variable_names ls
+pub names-append : (ks ls : Vars) → variable_names (ks ++ ls) ≡ variable_names ks ++ variable_names ls
 names-append [] ls = refl
 names-append (k ∷ ks) ls = ap (λ rest. k.0 ∷ rest) (names-append ks ls)
 
@@ -87,7 +87,7 @@ arguments-is at d there x ts us i = go (same_name d.name.name x) refl
     go true e = let f : Is (types.list_of ts) ≡ Is us = rw e at i in let g : types.list_of ts ≡ us = cc f in (e, g)
     go false e = absurd (cc (rw e at i))
 
-parts-long : (d : DataDecl) (ts : List SeqType) (k : DataConstructor) → length (parts_at d ts k) ≡ length k.parts
+pub parts-long : (d : DataDecl) (ts : List SeqType) (k : DataConstructor) → length (parts_at d ts k) ≡ length k.parts
 parts-long d ts k = go k.parts
   where
     go : (us : List SeqType) → length (map (types.filled (types.filling (names_of d.parameters) ts)) us) ≡ length us

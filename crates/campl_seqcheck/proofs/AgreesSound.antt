@@ -33,7 +33,7 @@ literal-typed : (w : World) (vs : Vars) (a : Expr) (at : Place) (wanted : Wanted
 literal-typed w vs a at wanted own u rule i = let m = meets-is at wanted own u i in (rule u (ap bare (sym m.0)), m.1)
 
 -- what was checked may be checked against the very type that is wanted
-at-wanted : (w : World) (vs : Vars) (a : Expr) (t u : SeqType) → Typed w vs a (Some t) u → HasType Checked w vs a t
+pub at-wanted : (w : World) (vs : Vars) (a : Expr) (t u : SeqType) → Typed w vs a (Some t) u → HasType Checked w vs a t
 at-wanted w vs a t u i = type-stable Checked w vs a u t i.1 i.0
 
 -- the part of a form is judged in the way in which the form is
@@ -46,13 +46,13 @@ empty-typed w vs at None u i = absurd (cc i)
 empty-typed w vs at (Some t) u i = let m = empty-is at (Some t) u i in (m.2, m.1)
 
 -- a type that is the same meets what is wanted too
-meets-same : (wanted : Wanted) (t u : SeqType) → IsSame t u → Meets wanted t → Meets wanted u
+pub meets-same : (wanted : Wanted) (t u : SeqType) → IsSame t u → Meets wanted t → Meets wanted u
 meets-same None t u i j = tt
 meets-same (Some v) t u i j = sym i ∙ j
 
 -- a pattern with no variables before it
-fits-alone : {o : Option Vars} {bound : List Name} {ys : Vars} → Fitted o bound [] ys → o ≡ Some ys
-fits-alone f = f.fits ∙ ap Some (sym (append-nil f.zs) ∙ sym f.are)
+pub alone-is : {o : Option Vars} {bound : List Name} {ys : Vars} → Fitted o bound [] ys → o ≡ Some ys
+alone-is f = f.fits ∙ ap Some (sym (append-nil f.zs) ∙ sym f.are)
 
 module _ (w : World) (known : PartsAreKnown w) where
   -- calls, where their parts are typed
@@ -202,7 +202,7 @@ module _ (w : World) (known : PartsAreKnown w) where
         let d : k.0 ≡ u = cc (l.2) in
         let h = fit-fits w [] p t j.0 j.1 in
         let r = judge-typed (j.0 ++ vs) a wanted k.0 k.1 in
-        ((j.0, fits-alone h, h.distinct, subst (HasType (way_for wanted) w (j.0 ++ vs) a) d r.0, subst (RowsHaveType Checked w vs rows t) d (more-typed vs rows t k.0 l.0 l.1)), subst (Meets wanted) d r.1)
+        ((j.0, alone-is h, h.distinct, subst (HasType (way_for wanted) w (j.0 ++ vs) a) d r.0, subst (RowsHaveType Checked w vs rows t) d (more-typed vs rows t k.0 l.0 l.1)), subst (Meets wanted) d r.1)
 
     more-typed : (vs : Vars) (rows : ExprRows) (t u : SeqType) (f : Fine) → judge_more w vs rows t u ≡ Is f → RowsHaveType Checked w vs rows t u
     more-typed vs e.no_expr_rows t u f i = tt
@@ -210,4 +210,4 @@ module _ (w : World) (known : PartsAreKnown w) where
         let j = in-turn (fit w [] p t) (λ xs. and_then (judge w (xs ++ vs) a (Some u)) (λ v. judge_more w vs rows t u)) f i in
         let k = in-turn (judge w (j.0 ++ vs) a (Some u)) (λ v. judge_more w vs rows t u) f j.2 in
         let h = fit-fits w [] p t j.0 j.1 in
-        (j.0, fits-alone h, h.distinct, at-wanted w (j.0 ++ vs) a u k.0 (judge-typed (j.0 ++ vs) a (Some u) k.0 k.1), more-typed vs rows t u f k.2)
+        (j.0, alone-is h, h.distinct, at-wanted w (j.0 ++ vs) a u k.0 (judge-typed (j.0 ++ vs) a (Some u) k.0 k.1), more-typed vs rows t u f k.2)

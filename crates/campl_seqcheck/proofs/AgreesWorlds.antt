@@ -7,12 +7,6 @@ use Rattle.campl_tree.specs.Plain.Decl.{Program, Decl, Data, Protocol, Coprotoco
 use Rattle.campl_types.specs.declared.fault.NameFault.{NameFault}
 use Rattle.campl_types.specs.Names.{Name, same_name, is_among}
 use Rattle.campl_types.proofs.Names.{same-is}
-use Rattle.campl_tree.specs.Plain.Expr.{Expr}
-use Rattle.campl_types.specs.Fits.{Vars}
-use Rattle.campl_types.specs.SameType.{IsSame}
-use Rattle.campl_types.specs.Sequential.{Found, Checked, IsFoundToHave, MayBeChecked}
-use Rattle.campl_seqcheck.specs.Judged.{Is}
-use Rattle.campl_seqcheck.specs.Judging.{judge}
 use Rattle.campl_types.specs.Substitution.{variables_of, variables_of_all}
 use Rattle.campl_types.specs.Known.{Heading, is_local, in_seq, in_seqs, each, in_decl}
 use Rattle.campl_types.specs.Run.{run_faults}
@@ -20,8 +14,7 @@ use Rattle.campl_types.specs.Twice.{twice_faults}
 use Rattle.campl_types.specs.WellDeclared.{IsWellDeclared}
 use Rattle.campl_types.specs.World.{World, world_of, names_of, variables_of_list, ConstructorEntry, OfData, OfProtocol, OfCoprotocol, or_else, among_data, among_protocol, among_coprotocol, constructor_entry, constructor_named}
 use Rattle.campl_seqcheck.proofs.AgreesNames.{or-split, Within, within-both}
-use Rattle.campl_seqcheck.proofs.AgreesStable.{type-stable}
-use Rattle.campl_seqcheck.proofs.AgreesSound.{PartsAreKnown, judge-typed}
+use Rattle.campl_seqcheck.proofs.AgreesSound.{PartsAreKnown}
 
 no-first : (fs gs : List NameFault) → fs ++ gs ≡ [] → fs ≡ []
 no-first [] gs i = refl
@@ -141,10 +134,3 @@ parts-are-known source i x d n k j =
     let used = each (in_decl (world_of source)) source in
     let faults = no-second (twice_faults source) used (no-first (twice_faults source ++ used) (run_faults (world_of source)) i) in
     named-known (world_of source) (world_of source) x (OfData d n k) (tt, (tt, all-fine (world_of source) source faults)) j
-
-pub found-typed : (source : Program) → IsWellDeclared source → (vs : Vars) (a : Expr) (t : SeqType) → judge (world_of source) vs a None ≡ Is t → IsFoundToHave (world_of source) vs a t
-found-typed source i vs a t j = (judge-typed (world_of source) (parts-are-known source i) vs a None t j).0
-
-pub checked-typed : (source : Program) → IsWellDeclared source → (vs : Vars) (a : Expr) (t u : SeqType) → judge (world_of source) vs a (Some t) ≡ Is u → MayBeChecked (world_of source) vs a t × IsSame u t
-checked-typed source i vs a t u j =
-    let h = judge-typed (world_of source) (parts-are-known source i) vs a (Some t) u j in (type-stable Checked (world_of source) vs a u t h.1 h.0, h.1)

@@ -8,3 +8,10 @@ pub mod AgreesCalls
 pub mod AgreesWanted
 pub mod AgreesSound
 pub mod AgreesWorlds
+pub mod AgreesAlike
+pub mod AgreesRefit
+pub mod AgreesMissing
+pub mod AgreesFinds
+pub mod AgreesComplete
+pub mod AgreesFunctions
+pub mod AgreesLaws
