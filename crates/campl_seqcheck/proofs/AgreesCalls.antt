@@ -13,12 +13,12 @@ use Rattle.campl_types.specs.Substitution.{Filling, filling, filled, types_of, v
 use Rattle.campl_types.specs.Fits.{Vars}
 use Rattle.campl_types.specs.World.{World, variables_of_list, type_parameters, names_of}
 use Rattle.campl_types.specs.Sequential.{Way, Found, Checked, HasType, PartsHaveTypes, whole}
-use Rattle.campl_seqcheck.specs.Judged.{Judged, Is, Fails, Fine, and_then, counted}
+use Rattle.campl_seqcheck.specs.Judged.{Judged, Is, Fine, and_then, counted}
 use Rattle.campl_seqcheck.specs.Matching.{bound_names, is_known, matched}
 use Rattle.campl_seqcheck.specs.Judging.{Wanted, meets, begun, found_so, all_bound, called, judge, judge_parts}
 use Rattle.campl_seqcheck.proofs.AgreesJudged.{in-turn, counts}
 use Rattle.campl_seqcheck.proofs.AgreesSame.{Meets, meets-is}
-use Rattle.campl_seqcheck.proofs.AgreesNames.{as-false, among-append, or-first, or-second, Within, SameNames, among-within, within-among, within-left, within-right, among-same, arguments_in, arguments-long, arguments-fill}
+use Rattle.campl_seqcheck.proofs.AgreesNames.{as-false, among-append, or-second, Within, SameNames, among-within, within-among, within-left, within-right, among-same, arguments_in, arguments-long, arguments-fill}
 use Rattle.campl_seqcheck.proofs.AgreesMatch.{Extends, extends-itself, extends-on, filled-kept, bound-then, match-fills}
 use Rattle.campl_seqcheck.proofs.AgreesStable.{type-stable}
 
@@ -57,9 +57,11 @@ once-among x (y ∷ ys) = go (same_name x y) refl (once-among x ys)
 
 pub function-declares : (f : FunctionDecl) → Declares (type_parameters f) f.parameters f.result
 function-declares f =
-    record { in_parts = within-left (variables_of_list f.parameters) (variables_of f.result) (type_parameters f) inside
-           ; in_result = within-right (variables_of_list f.parameters) (variables_of f.result) (type_parameters f) inside
-           ; no_others = λ x i. sym (once-among x (variables_of_list f.parameters ++ variables_of f.result)) ∙ i }
+    record {
+      in_parts = within-left (variables_of_list f.parameters) (variables_of f.result) (type_parameters f) inside;
+      in_result = within-right (variables_of_list f.parameters) (variables_of f.result) (type_parameters f) inside;
+      no_others = λ x i. sym (once-among x (variables_of_list f.parameters ++ variables_of f.result)) ∙ i;
+    }
   where
     inside : Within (variables_of_list f.parameters ++ variables_of f.result) (type_parameters f)
     inside x i = once-among x (variables_of_list f.parameters ++ variables_of f.result) ∙ i
@@ -70,9 +72,11 @@ whole-variables (x ∷ xs) = ap (λ rest. x ∷ rest) (whole-variables xs)
 
 pub constructor-declares : (d : DataDecl) (types : List SeqType) → Within (variables_of_list types) (names_of d.parameters) → Declares (names_of d.parameters) types (whole d)
 constructor-declares d types i =
-    record { in_parts = i
-           ; in_result = λ x j. ap (is_among x) (sym (whole-variables (names_of d.parameters))) ∙ j
-           ; no_others = λ x j. among-append x (variables_of_list types) (variables_of (whole d)) ∙ or-second (is_among x (variables_of_list types)) (is_among x (variables_of (whole d))) (ap (is_among x) (whole-variables (names_of d.parameters)) ∙ j) }
+    record {
+      in_parts = i;
+      in_result = λ x j. ap (is_among x) (sym (whole-variables (names_of d.parameters))) ∙ j;
+      no_others = λ x j. among-append x (variables_of_list types) (variables_of (whole d)) ∙ or-second (is_among x (variables_of_list types)) (is_among x (variables_of (whole d))) (ap (is_among x) (whole-variables (names_of d.parameters)) ∙ j);
+    }
 
 -- Parts
 
@@ -103,26 +107,35 @@ one-part w vs f t ts a rest g first later i = go (is_known f t) refl
   where
     known-then : (next : Filling) → Extends f (variables_of t) next → (known : List Name) → SameNames known (bound_names f) → SameNames (known ++ variables_of t) (bound_names next)
     known-then next b known j x = among-append x known (variables_of t) ∙ ap (λ c. c || is_among x (variables_of t)) (j x) ∙ sym (b.binds x)
+
     go : (b : Bool) → is_known f t ≡ b → PartsFound f (t ∷ ts) g (λ k known. PartsHaveTypes w vs k known (t ∷ ts) (e.expr_then a rest))
     go true k =
         let j = in-turn (judge w vs a (Some (filled f t))) (λ u. judge_parts w vs f ts rest) g (rw k at i) in
         let m = first (Some (filled f t)) j.0 j.1 in let r = later f j.2 in
         let inside = among-within (variables_of t) (bound_names f) k in
         let own = extends-itself f (variables_of t) inside in
-        record { extends = extends-on f f g (variables_of t) (variables_of_list ts) own r.extends
-               ; typed = λ h known n alike. (rw (among-same (variables_of t) known (bound_names f) n, k)
-                     (type-stable Checked w vs a j.0 (filled h t) (m.1 ∙ ap bare (sym (alike.0 ∙ filled-kept f g (variables_of_list ts) t r.extends inside))) m.0)
-                   , r.typed h (known ++ variables_of t) (known-then f own known n) alike.1) }
+        record {
+          extends = extends-on f f g (variables_of t) (variables_of_list ts) own r.extends;
+          typed = λ h known n alike. (
+            rw (among-same (variables_of t) known (bound_names f) n, k)
+                (type-stable Checked w vs a j.0 (filled h t) (m.1 ∙ ap bare (sym (alike.0 ∙ filled-kept f g (variables_of_list ts) t r.extends inside))) m.0),
+            r.typed h (known ++ variables_of t) (known-then f own known n) alike.1,
+          );
+        }
     go false k =
         let j = in-turn (judge w vs a None) (λ u. and_then (found_so (expr_place a) f t u (matched f t u)) (λ next. judge_parts w vs next ts rest)) g (rw k at i) in
         let m = first None j.0 j.1 in
         let l = in-turn (found_so (expr_place a) f t j.0 (matched f t j.0)) (λ next. judge_parts w vs next ts rest) g j.2 in
         let b = match-fills f t j.0 l.0 (found-so-is (expr_place a) f t j.0 (matched f t j.0) l.0 l.1) in
         let r = later l.0 l.2 in
-        record { extends = extends-on f l.0 g (variables_of t) (variables_of_list ts) b.0 r.extends
-               ; typed = λ h known n alike. (rw (among-same (variables_of t) known (bound_names f) n, k)
-                     (type-stable Found w vs a j.0 (filled h t) (sym b.1 ∙ ap bare (sym (alike.0 ∙ filled-kept l.0 g (variables_of_list ts) t r.extends (bound-then f l.0 (variables_of t) b.0)))) m.0)
-                   , r.typed h (known ++ variables_of t) (known-then l.0 b.0 known n) alike.1) }
+        record {
+          extends = extends-on f l.0 g (variables_of t) (variables_of_list ts) b.0 r.extends;
+          typed = λ h known n alike. (
+            rw (among-same (variables_of t) known (bound_names f) n, k)
+                (type-stable Found w vs a j.0 (filled h t) (sym b.1 ∙ ap bare (sym (alike.0 ∙ filled-kept l.0 g (variables_of_list ts) t r.extends (bound-then f l.0 (variables_of t) b.0)))) m.0),
+            r.typed h (known ++ variables_of t) (known-then l.0 b.0 known n) alike.1,
+          );
+        }
 
 -- Calls
 
@@ -184,9 +197,13 @@ called-typed at parameters number types result wanted u parts Parts declares eac
     let m = meets-is at wanted (filled c.0 result) u d.2 in
     let r = each b.0 c.0 (counts at number (length types) a.0 a.1) c.1 in
     let inside = bound-is at parameters c.0 d.0 d.1 in
-    let known = start-known at parameters result wanted b.0 declares.in_result b.1 in
-    ((arguments_in c.0 parameters, arguments-long c.0 parameters
-        , ap bare (sym m.0 ∙ sym (arguments-fill c.0 parameters result declares.in_result (λ x k. inside x (declares.in_result x k))))
-        , r.typed (filling parameters (arguments_in c.0 parameters)) (known_at (way_for wanted) result) known (fill-alike c.0 parameters types declares.in_parts inside)
-        , tell-all wanted parameters types result b.0 c.0 known r.extends inside)
-      , m.1)
+    let known = start-known at parameters result wanted b.0 declares.in_result b.1 in (
+      (
+        arguments_in c.0 parameters,
+        arguments-long c.0 parameters,
+        ap bare (sym m.0 ∙ sym (arguments-fill c.0 parameters result declares.in_result (λ x k. inside x (declares.in_result x k)))),
+        r.typed (filling parameters (arguments_in c.0 parameters)) (known_at (way_for wanted) result) known (fill-alike c.0 parameters types declares.in_parts inside),
+        tell-all wanted parameters types result b.0 c.0 known r.extends inside,
+      ),
+      m.1,
+    )

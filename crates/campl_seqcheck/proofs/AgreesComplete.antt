@@ -1,26 +1,25 @@
 -- What is typed is judged so, under variables and types that are the same up to places.
-use Rattle.std.proofs.Common.{◌≡◌, ◌∙◌, refl, sym, ap, subst, ℕ, suc, List, [], ◌∷◌, ◌++◌, Option, Some, None, length, option_map}
+use Rattle.std.proofs.Common.{◌≡◌, ◌∙◌, refl, sym, ap, subst, List, [], ◌∷◌, ◌++◌, Some, None, option_map}
 use Rattle.campl_tree.specs.declared.place.Place.{Place}
 use Rattle.campl_tree.specs.Places.{expr_place}
 use Rattle.campl_tree.specs.Plain.SeqType.{SeqType, Int, Char, Bool}
 use Rattle.campl_tree.specs.Plain.SeqType as s
 use Rattle.campl_tree.specs.Plain.Expr as e
 use Rattle.campl_tree.specs.Plain.Expr.{Expr, Exprs, ExprRows}
-use Rattle.campl_types.specs.Names.{Name, found}
-use Rattle.campl_types.specs.SameType.{IsSame, bare}
+use Rattle.campl_types.specs.Names.{Name}
+use Rattle.campl_types.specs.SameType.{IsSame}
 use Rattle.campl_types.specs.Substitution.{Filling, variables_of}
 use Rattle.campl_types.specs.Fits.{Vars}
 use Rattle.campl_types.specs.Missing.{missing}
-use Rattle.campl_types.specs.World.{World, function_named, constructor_named, names_of, type_parameters, variables_of_list}
-use Rattle.campl_types.specs.Sequential.{Way, Found, Checked, IsComparable, HasType, PartsHaveTypes, AllChecked, RowsHaveType, whole, expr_rows}
-use Rattle.campl_seqcheck.specs.Judged.{Judged, Is, Fails, Fine, fine, and_then}
+use Rattle.campl_types.specs.World.{World, names_of, type_parameters}
+use Rattle.campl_types.specs.Sequential.{Way, Checked, IsComparable, HasType, PartsHaveTypes, AllChecked, RowsHaveType, whole, expr_rows}
+use Rattle.campl_seqcheck.specs.Judged.{Is, fine}
 use Rattle.campl_seqcheck.specs.Matching.{bound_names}
-use Rattle.campl_seqcheck.specs.Fitting.{fit}
-use Rattle.campl_seqcheck.specs.Judging.{Wanted, meets, wanted_item, wanted_parts, empty_list, a_list, a_comparable, variable_type, exhaustive, fit_rows, count_of, judge, judge_each, judge_parts, judge_rows, judge_more}
-use Rattle.campl_seqcheck.proofs.AgreesSame.{Meets, is-met}
+use Rattle.campl_seqcheck.specs.Judging.{Wanted, meets, wanted_item, wanted_parts, empty_list, a_list, a_comparable, exhaustive, fit_rows, count_of, judge, judge_each, judge_parts, judge_rows, judge_more}
+use Rattle.campl_seqcheck.proofs.AgreesSame.{Meets, is-met, meets-same}
 use Rattle.campl_seqcheck.proofs.AgreesNames.{SameNames}
-use Rattle.campl_seqcheck.proofs.AgreesCalls.{way_for, IsCalled, function-declares, constructor-declares}
-use Rattle.campl_seqcheck.proofs.AgreesSound.{PartsAreKnown, meets-same}
+use Rattle.campl_seqcheck.proofs.AgreesCalls.{way_for, function-declares, constructor-declares}
+use Rattle.campl_seqcheck.proofs.AgreesSound.{PartsAreKnown}
 use Rattle.campl_seqcheck.proofs.AgreesAlike.{SameVars, same-vars-append, same-found, same-list, same-pair}
 use Rattle.campl_seqcheck.proofs.AgreesRefit.{fits-alone}
 use Rattle.campl_seqcheck.proofs.AgreesMissing.{missing-same}

@@ -1,7 +1,6 @@
 -- Matching finds what the parameters stand for, and a call that has a type is judged so.
 use Rattle.std.proofs.Common.{◌≡◌, ◌∙◌, refl, sym, ap, subst, ℕ, suc, Bool, true, false, ◌||◌, ◌⊎◌, inl, inr, List, [], ◌∷◌, ◌++◌, Option, Some, None, if◌then◌else◌, length, eqb, eq-eqb, unwrap_or, true≢false}
 use Rattle.campl_tree.specs.declared.place.Place.{Place}
-use Rattle.campl_tree.specs.Places.{expr_place}
 use Rattle.campl_tree.specs.Plain.SeqType.{SeqType, SeqTypes, no_types, type_then}
 use Rattle.campl_tree.specs.Plain.SeqType as s
 use Rattle.campl_tree.specs.Plain.Expr as e
@@ -14,12 +13,12 @@ use Rattle.campl_types.proofs.SameType.{same-seq}
 use Rattle.campl_types.specs.Substitution.{Filling, filling, filled, all_filled, variables_of, variables_of_all}
 use Rattle.campl_types.specs.Fits.{Vars}
 use Rattle.campl_types.specs.World.{World, variables_of_list}
-use Rattle.campl_types.specs.Sequential.{Way, Found, Checked, HasType, PartsHaveTypes}
-use Rattle.campl_seqcheck.specs.Judged.{Judged, Is, Fails, Fine, fine, and_then, counted}
+use Rattle.campl_types.specs.Sequential.{Found, Checked, HasType}
+use Rattle.campl_seqcheck.specs.Judged.{Judged, Is}
 use Rattle.campl_seqcheck.specs.Matching.{bound_names, is_known, matched, all_matched, then_match}
-use Rattle.campl_seqcheck.specs.Judging.{Wanted, meets, begun, found_so, all_bound, called, count_of, judge, judge_parts}
-use Rattle.campl_seqcheck.proofs.AgreesSame.{Meets, is-met}
-use Rattle.campl_seqcheck.proofs.AgreesNames.{as-false, or-split, or-first, or-second, among-append, Within, SameNames, among-within, within-among, within-left, within-right, among-same, among-found, stands_for}
+use Rattle.campl_seqcheck.specs.Judging.{Wanted, begun, called, count_of, judge, judge_parts}
+use Rattle.campl_seqcheck.proofs.AgreesSame.{Meets, is-met, meets-same}
+use Rattle.campl_seqcheck.proofs.AgreesNames.{as-false, or-split, or-first, among-append, Within, SameNames, among-within, within-among, within-left, within-right, among-same, among-found, stands_for}
 use Rattle.campl_seqcheck.proofs.AgreesMatch.{Extends, extends-itself, extends-on, bound-then, match-fills}
 use Rattle.campl_seqcheck.proofs.AgreesCalls.{way_for, Declares, known_at, TellAll, IsCalled}
 
@@ -52,6 +51,7 @@ find-variable f g at x t a i = go (found x f) refl
   where
     own : IsSame t (stands_for g x)
     own = sym i ∙ any-place (found x g) at x
+
     go : (o : Option SeqType) → found x f ≡ o → Finds (matched f (s.Variable at x) t) g
     go None e = (f ++ (x, t) ∷ [], rw e refl, λ y v j. either y v (found-behind y x f t v j))
       where
@@ -129,6 +129,7 @@ one-judged w vs us f g known t ts a rest agrees names first later typed = go (is
   where
     known-then : (next : Filling) → Extends f (variables_of t) next → SameNames (known ++ variables_of t) (bound_names next)
     known-then next b x = among-append x known (variables_of t) ∙ ap (λ c. c || is_among x (variables_of t)) (names x) ∙ sym (b.binds x)
+
     go : (b : Bool) → is_known f t ≡ b → PartsJudged (judge_parts w us f (t ∷ ts) (e.expr_then a rest)) (suc (count_of rest)) f (t ∷ ts) g
     go true k =
         let inside = among-within (variables_of t) (bound_names f) k in
@@ -174,10 +175,6 @@ told (Some t) parameters types result f h all tells names b x i = go (or-split (
     go : (is_among x (variables_of_list types) ≡ true) ⊎ (is_among x (variables_of result) ≡ true) → is_among x (bound_names h) ≡ true
     go (inl e) = bound-then f h (variables_of_list types) b x e
     go (inr e) = b.binds x ∙ or-first (is_among x (bound_names f)) (is_among x (variables_of_list types)) (sym (names x) ∙ e)
-
-meets-same : (wanted : Wanted) (t u : SeqType) → IsSame t u → Meets wanted t → Meets wanted u
-meets-same None t u i j = tt
-meets-same (Some v) t u i j = sym i ∙ j
 
 pub called-judged : (at : Place) (parameters : List Name) (number : ℕ) (types : List SeqType) (result : SeqType) (wanted : Wanted) (t : SeqType) (parts : Filling → Judged Filling) (Parts : Filling → List Name → Type 0)
     → Declares parameters types result → Meets wanted t

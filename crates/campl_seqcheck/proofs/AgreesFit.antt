@@ -1,5 +1,5 @@
 -- A pattern that is judged fits, and its variables differ from each other and from those before it.
-use Rattle.std.proofs.Common.{◌≡◌, ◌∙◌, refl, sym, ap, subst, ℕ, suc, Bool, true, false, not, ◌||◌, ◌⊎◌, inl, inr, List, [], ◌∷◌, ◌++◌, Option, Some, None, if◌then◌else◌, map, length, append_assoc, true≢false, append-nil}
+use Rattle.std.proofs.Common.{◌≡◌, ◌∙◌, refl, sym, ap, subst, suc, Bool, true, false, ◌||◌, ◌⊎◌, inl, inr, List, [], ◌∷◌, ◌++◌, Option, Some, None, map, length, append_assoc, true≢false}
 use Rattle.campl_tree.specs.declared.place.Place.{Place}
 use Rattle.campl_tree.specs.Plain.SeqType.{SeqType}
 use Rattle.campl_tree.specs.Plain.SeqType as s
@@ -13,10 +13,10 @@ use Rattle.campl_types.specs.Patterns.{bound_in, bound_in_all}
 use Rattle.campl_types.specs.Fits.{Vars, both, fits, each_fits, all_fit}
 use Rattle.campl_types.specs.Values.{parts_at}
 use Rattle.campl_types.specs.World.{World, names_of, ConstructorEntry, OfData, OfProtocol, OfCoprotocol, constructor_named}
-use Rattle.campl_seqcheck.specs.Judged.{Judged, Is, Fails, Fine, and_then, counted}
-use Rattle.campl_seqcheck.specs.Fitting.{variable_names, number_of, item_type, pair_types, arguments_of, fit, fit_each, fit_all}
+use Rattle.campl_seqcheck.specs.Judged.{Is, and_then, counted}
+use Rattle.campl_seqcheck.specs.Fitting.{variable_names, number_of, arguments_of, fit, fit_each, fit_all}
 use Rattle.campl_seqcheck.proofs.AgreesJudged.{in-turn, counts}
-use Rattle.campl_seqcheck.proofs.AgreesNames.{or-split, or-first, among-append, Apart, distinct-append}
+use Rattle.campl_seqcheck.proofs.AgreesNames.{or-split, among-append, Apart, distinct-append}
 
 -- what fits binds these names, which differ from those before
 pub record Fitted (o : Option Vars) (bound : List Name) (xs ys : Vars) : Type 0 where
@@ -48,17 +48,26 @@ nothing-fitted o xs ys i j = let e : xs ≡ ys = cc j in record { zs = []; fits 
 
 both-fitted : (o q : Option Vars) (ks ls : List Name) (xs ys us : Vars) → Fitted o ks xs ys → Fitted q ls ys us → Fitted (both o q) (ks ++ ls) xs us
 both-fitted o q ks ls xs ys us a b =
-    record { zs = b.zs ++ a.zs; fits = rw (a.fits, b.fits) refl; are = b.are ∙ ap (λ rest. b.zs ++ rest) a.are ∙ sym (append_assoc b.zs a.zs xs)
-           ; distinct = distinct-append ks ls a.distinct b.distinct (λ x i. apart-first x i (b.apart x i)); apart = apart; named = named-both a.zs b.zs ks ls a.named b.named }
+    record {
+      zs = b.zs ++ a.zs;
+      fits = rw (a.fits, b.fits) refl;
+      are = b.are ∙ ap (λ rest. b.zs ++ rest) a.are ∙ sym (append_assoc b.zs a.zs xs);
+      distinct = distinct-append ks ls a.distinct b.distinct (λ x i. apart-first x i (b.apart x i));
+      apart = apart;
+      named = named-both a.zs b.zs ks ls a.named b.named;
+    }
   where
     among-ys : (x : Name) → is_among x (variable_names ys) ≡ (is_among x ks || is_among x (variable_names xs))
     among-ys x = let e : is_among x (variable_names a.zs) ≡ is_among x ks = a.named x in
         ap (λ vs. is_among x (variable_names vs)) a.are ∙ ap (is_among x) (names-append a.zs xs) ∙ among-append x (variable_names a.zs) (variable_names xs) ∙ ap (λ c. c || is_among x (variable_names xs)) e
+
     none-of : (c d : Bool) → (c || d) ≡ false → (c ≡ false) × (d ≡ false)
     none-of true d i = absurd (true≢false i)
     none-of false d i = (refl, i)
+
     apart-first : (x : Name) → is_among x ls ≡ true → is_among x (variable_names ys) ≡ false → is_among x ks ≡ false
     apart-first x i j = (none-of (is_among x ks) (is_among x (variable_names xs)) (sym (among-ys x) ∙ j)).0
+
     apart : (x : Name) → is_among x (ks ++ ls) ≡ true → is_among x (variable_names xs) ≡ false
     apart x i = go (or-split (is_among x ks) (is_among x ls) (sym (among-append x ks ls) ∙ i))
       where

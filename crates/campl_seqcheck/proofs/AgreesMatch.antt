@@ -1,5 +1,5 @@
 -- What matching binds: the variables of the declared type, so that it is filled to the type.
-use Rattle.std.proofs.Common.{◌≡◌, ◌∙◌, refl, sym, ap, subst, Bool, true, false, ◌||◌, ◌⊎◌, inl, inr, List, [], ◌∷◌, ◌++◌, Option, Some, None, if◌then◌else◌, unwrap_or, true≢false}
+use Rattle.std.proofs.Common.{◌≡◌, ◌∙◌, refl, sym, ap, subst, Bool, true, false, ◌||◌, ◌⊎◌, inl, inr, List, [], ◌∷◌, ◌++◌, Option, Some, None, unwrap_or, true≢false}
 use Rattle.campl_tree.specs.declared.place.Place.{Place}
 use Rattle.campl_tree.specs.Plain.SeqType.{SeqType, SeqTypes, no_types, type_then}
 use Rattle.campl_tree.specs.Plain.SeqType as s
@@ -10,7 +10,7 @@ use Rattle.campl_types.specs.SameTest.{same_seq}
 use Rattle.campl_types.proofs.SameType.{seq-same}
 use Rattle.campl_types.specs.Substitution.{Filling, filled, all_filled, variables_of, variables_of_all}
 use Rattle.campl_seqcheck.specs.Matching.{bound_names, matched, all_matched, then_match}
-use Rattle.campl_seqcheck.proofs.AgreesNames.{or-split, or-first, or-second, or-more, among-append, Within, within-left, within-right, among-found, found-among, filled-alike, all-filled-alike}
+use Rattle.campl_seqcheck.proofs.AgreesNames.{or-split, or-second, or-more, among-append, Within, among-found, found-among, filled-alike}
 
 -- the parameters stand for what they stood for, and these for something beside
 pub record Extends (f : Filling) (bound : List Name) (g : Filling) : Type 0 where
@@ -77,6 +77,7 @@ bound-here at x f g t i = go (found x f) refl
         once-bound : (y : Name) → (same_name y x ≡ true) ⊎ (false ≡ true) → is_among y (bound_names f) ≡ true
         once-bound y (inl n) = subst (λ z. is_among z (bound_names f) ≡ true) (sym (same-is y x n)) (found-among x f u e)
         once-bound y (inr n) = absurd (true≢false (sym n))
+
         same : (b : Bool) → same_seq u t ≡ b → Extends f (x ∷ []) g × IsSame (unwrap_or (found x g) (s.Variable at x)) t
         same false m = let j : None ≡ Some g = rw (e, m) at i in absurd (cc j)
         same true m =

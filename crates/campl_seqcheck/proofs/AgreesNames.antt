@@ -1,9 +1,8 @@
 -- Names among names, and what parameters stand for.
-use Rattle.std.proofs.Common.{◌≡◌, ◌∙◌, ◌⊎◌, inl, inr, refl, sym, ap, subst, ℕ, suc, Bool, true, false, not, ◌&&◌, ◌||◌, List, [], ◌∷◌, ◌++◌, Option, Some, None, if◌then◌else◌, map, length, unwrap_or, true≢false}
-use Rattle.campl_tree.specs.declared.place.Place.{Place}
+use Rattle.std.proofs.Common.{◌≡◌, ◌∙◌, ◌⊎◌, inl, inr, refl, sym, ap, subst, suc, Bool, true, false, not, ◌&&◌, ◌||◌, List, [], ◌∷◌, ◌++◌, Some, map, length, unwrap_or, true≢false}
 use Rattle.campl_tree.specs.Plain.SeqType.{SeqType, SeqTypes, no_types, type_then}
 use Rattle.campl_tree.specs.Plain.SeqType as s
-use Rattle.campl_types.specs.Names.{Name, same_name, is_among, all_among, are_distinct, found, without, once}
+use Rattle.campl_types.specs.Names.{Name, same_name, is_among, all_among, are_distinct, found}
 use Rattle.campl_types.proofs.Names.{same-is, same-itself, split-names}
 use Rattle.campl_types.specs.SameType.{nowhere}
 use Rattle.campl_types.specs.Substitution.{Filling, filling, filled, all_filled, variables_of, variables_of_all}
@@ -106,8 +105,10 @@ distinct-append (a ∷ ks) bs i j apart =
     go : (b : Bool) → is_among a ks ≡ b → is_among a ks ≡ false
     go true e = absurd (true≢false (sym (and-first false (are_distinct ks) (rw e at i))))
     go false e = e
+
     not-later : (x : Name) → (same_name x a || is_among x ks) ≡ false → is_among x ks ≡ false
     not-later x k = as-false (is_among x ks) (λ e. true≢false (sym (or-second (same_name x a) (is_among x ks) e) ∙ k))
+
     other : is_among a bs ≡ false
     other = as-false (is_among a bs) (λ e. true≢false (sym (or-first (same_name a a) (is_among a ks) (same-itself a)) ∙ apart a e))
 

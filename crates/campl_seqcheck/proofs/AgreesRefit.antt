@@ -1,5 +1,5 @@
 -- A pattern that fits is judged so, at each type that is the same up to places.
-use Rattle.std.proofs.Common.{◌≡◌, ◌∙◌, refl, sym, ap, subst, ℕ, suc, Bool, true, false, not, ◌&&◌, ◌||◌, List, [], ◌∷◌, ◌++◌, Option, Some, None, if◌then◌else◌, length, eqb, eq-eqb, append_assoc, append-nil, true≢false}
+use Rattle.std.proofs.Common.{◌≡◌, ◌∙◌, refl, sym, ap, subst, suc, Bool, true, false, not, ◌||◌, List, [], ◌∷◌, ◌++◌, Option, Some, None, if◌then◌else◌, length, eqb, eq-eqb, append_assoc, append-nil, true≢false}
 use Rattle.campl_tree.specs.declared.place.Place.{Place}
 use Rattle.campl_tree.specs.Plain.SeqType.{SeqType}
 use Rattle.campl_tree.specs.Plain.SeqType as s
@@ -13,7 +13,7 @@ use Rattle.campl_types.specs.Patterns.{bound_in, bound_in_all}
 use Rattle.campl_types.specs.Fits.{Vars, both, fits, each_fits, all_fit}
 use Rattle.campl_types.specs.Values.{parts_at}
 use Rattle.campl_types.specs.World.{World, ConstructorEntry, OfData, OfProtocol, OfCoprotocol, constructor_named}
-use Rattle.campl_seqcheck.specs.Judged.{Judged, Is, Fails, Fine, fine, and_then, counted}
+use Rattle.campl_seqcheck.specs.Judged.{Judged, Is, and_then}
 use Rattle.campl_seqcheck.specs.Fitting.{variable_names, number_of, fit, fit_each, fit_all}
 use Rattle.campl_seqcheck.proofs.AgreesNames.{and-first, and-second, and-both, or-first, or-second, as-false, among-append, Apart}
 use Rattle.campl_seqcheck.proofs.AgreesFit.{names-append, named-both, parts-long}
@@ -121,10 +121,13 @@ distinct-split (k ∷ ks) ls i =
         go : (b : Bool) → is_among k (ks ++ ls) ≡ b → is_among k (ks ++ ls) ≡ false
         go true e = absurd (true≢false (sym (and-first false (are_distinct (ks ++ ls)) (rw e at i))))
         go false e = e
+
     own : is_among k ks ≡ false
     own = as-false (is_among k ks) (λ e. true≢false (sym (among-append k ks ls ∙ or-first (is_among k ks) (is_among k ls) e) ∙ none))
+
     other : is_among k ls ≡ false
     other = as-false (is_among k ls) (λ e. true≢false (sym (among-append k ks ls ∙ or-second (is_among k ks) (is_among k ls) e) ∙ none))
+
     later : (x : Name) (b : Bool) → same_name x k ≡ b → (same_name x k || is_among x ks) ≡ true → (is_among x ks ≡ true → is_among x ls ≡ false) → is_among x ls ≡ false
     later x true e j rest = subst (λ y. is_among y ls ≡ false) (sym (same-is x k e)) other
     later x false e j rest = rest (rw e at j)
@@ -155,6 +158,7 @@ fittable-both o q ks ls j h a b xs zs i d apart =
   where
     not-first : (x : Name) → is_among x ls ≡ true → Apart ks ls → is_among x ks ≡ false
     not-first x l c = as-false (is_among x ks) (λ e. true≢false (sym l ∙ c x e))
+
     behind : (ys : Vars) → ((y : Name) → is_among y (variable_names ys) ≡ is_among y ks) → (x : Name) → is_among x ks ≡ false → is_among x (variable_names xs) ≡ false → is_among x (variable_names (ys ++ xs)) ≡ false
     behind ys named x e f = let g : is_among x (variable_names ys) ≡ false = named x ∙ e in ap (is_among x) (names-append ys xs) ∙ among-append x (variable_names ys) (variable_names xs) ∙ rw (g, f) refl
 

@@ -12,16 +12,16 @@ use Rattle.campl_types.specs.SameType.{IsSame, bare}
 use Rattle.campl_types.specs.Substitution.{Filling}
 use Rattle.campl_types.specs.Fits.{Vars}
 use Rattle.campl_types.specs.World.{World, ConstructorEntry, OfData, OfProtocol, OfCoprotocol, constructor_named, function_named, names_of, type_parameters, variables_of_list}
-use Rattle.campl_types.specs.Sequential.{Way, Found, Checked, HasType, PartsHaveTypes, AllChecked, RowsHaveType, whole, expr_rows}
-use Rattle.campl_seqcheck.specs.Judged.{Judged, Is, Fails, Fine, fine, and_then}
+use Rattle.campl_types.specs.Sequential.{Checked, HasType, PartsHaveTypes, AllChecked, RowsHaveType, whole, expr_rows}
+use Rattle.campl_seqcheck.specs.Judged.{Is, Fine, and_then}
 use Rattle.campl_seqcheck.specs.Fitting.{fit}
-use Rattle.campl_seqcheck.specs.Judging.{Wanted, meets, wanted_item, wanted_parts, a_list, a_comparable, variable_type, exhaustive, fit_rows, count_of, called, judge, judge_each, judge_parts, judge_rows, judge_more}
+use Rattle.campl_seqcheck.specs.Judging.{Wanted, meets, wanted_item, wanted_parts, a_list, a_comparable, variable_type, exhaustive, fit_rows, count_of, judge, judge_each, judge_parts, judge_rows, judge_more}
 use Rattle.campl_seqcheck.proofs.AgreesJudged.{in-turn}
-use Rattle.campl_seqcheck.proofs.AgreesSame.{Meets, meets-is}
+use Rattle.campl_seqcheck.proofs.AgreesSame.{Meets, meets-is, meets-same}
 use Rattle.campl_seqcheck.proofs.AgreesNames.{Within}
 use Rattle.campl_seqcheck.proofs.AgreesFit.{Fitted, fit-fits}
 use Rattle.campl_seqcheck.proofs.AgreesStable.{type-stable}
-use Rattle.campl_seqcheck.proofs.AgreesCalls.{way_for, Typed, Declares, function-declares, constructor-declares, PartsFound, no-parts, one-part, IsCalled, called-typed}
+use Rattle.campl_seqcheck.proofs.AgreesCalls.{way_for, Typed, function-declares, constructor-declares, PartsFound, no-parts, one-part, IsCalled, called-typed}
 use Rattle.campl_seqcheck.proofs.AgreesWanted.{item-wanted, list-wanted, parts-wanted, empty-is, list-is, comparable-is, variable-is, exhaustive-is}
 
 -- the type variables of a constructor's parts are parameters of its data type
@@ -45,10 +45,20 @@ empty-typed : (w : World) (vs : Vars) (at : Place) (wanted : Wanted) (u : SeqTyp
 empty-typed w vs at None u i = absurd (cc i)
 empty-typed w vs at (Some t) u i = let m = empty-is at (Some t) u i in (m.2, m.1)
 
--- a type that is the same meets what is wanted too
-pub meets-same : (wanted : Wanted) (t u : SeqType) → IsSame t u → Meets wanted t → Meets wanted u
-meets-same None t u i j = tt
-meets-same (Some v) t u i j = sym i ∙ j
+-- the forms whose parts are judged in the way in which the form is
+
+list-typed : (w : World) (vs : Vars) (at : Place) (a : Expr) (rest : Exprs) (wanted : Wanted) (t u : SeqType) → s.List t ≡ u
+    → HasType (way_for wanted) w vs a t → AllChecked w vs rest t → Meets wanted (s.List t) → Typed w vs (e.List at (e.expr_then a rest)) wanted u
+list-typed w vs at a rest wanted t u same h each met = ((t, ap bare (sym same), h, each), subst (Meets wanted) same met)
+
+append-typed : (w : World) (vs : Vars) (at : Place) (a b : Expr) (wanted : Wanted) (t v u : SeqType) → t ≡ s.List v
+    → HasType (way_for wanted) w vs a t → Typed w vs b (Some t) u → Meets wanted t → Typed w vs (e.Append at a b) wanted u
+append-typed w vs at a b wanted t v u same h r met =
+    ((v, r.1 ∙ ap bare same, subst (HasType (way_for wanted) w vs a) same h, subst (HasType Checked w vs b) same (at-wanted w vs b t u r)), meets-same wanted t u (sym r.1) met)
+
+pair-typed : (w : World) (vs : Vars) (at : Place) (a b : Expr) (wanted : Wanted) (t v u : SeqType) → s.Pair t v ≡ u
+    → HasType (way_for wanted) w vs a t → HasType (way_for wanted) w vs b v → Meets wanted (s.Pair t v) → Typed w vs (e.Pair at a b) wanted u
+pair-typed w vs at a b wanted t v u same h r met = ((t, v, ap bare (sym same), h, r), subst (Meets wanted) same met)
 
 -- a pattern with no variables before it
 pub alone-is : {o : Option Vars} {bound : List Name} {ys : Vars} → Fitted o bound [] ys → o ≡ Some ys
@@ -102,7 +112,7 @@ module _ (w : World) (known : PartsAreKnown w) where
         let m = item-wanted at wanted j.0 j.1 in
         let h = judge-typed vs a j.0 k.0 k.1 in
         let d : s.List k.0 ≡ u = cc (l.2) in
-        ((k.0, ap bare (sym d), in-way w vs a wanted j.0 k.0 m.0 h.0, each-typed vs rest k.0 l.0 l.1), subst (Meets wanted) d (m.1 k.0 h.1))
+        list-typed w vs at a rest wanted k.0 u d (in-way w vs a wanted j.0 k.0 m.0 h.0) (each-typed vs rest k.0 l.0 l.1) (m.1 k.0 h.1)
     judge-typed vs (e.Cons at a b) wanted u i =
         let j = in-turn (wanted_item at wanted) (λ item. and_then (judge w vs a item) (λ t. judge w vs b (Some (s.List t)))) u i in
         let k = in-turn (judge w vs a j.0) (λ t. judge w vs b (Some (s.List t))) u j.2 in
@@ -118,7 +128,7 @@ module _ (w : World) (known : PartsAreKnown w) where
         let n = list-is (expr_place a) k.0 l.0 l.1 in
         let h = judge-typed vs a (option_map s.List j.0) k.0 k.1 in
         let r = judge-typed vs b (Some k.0) u l.2 in
-        ((n.0, r.1 ∙ ap bare n.1, subst (HasType (way_for wanted) w vs a) n.1 (in-way w vs a wanted (option_map s.List j.0) k.0 m.0 h.0), subst (HasType Checked w vs b) n.1 (at-wanted w vs b k.0 u r)), meets-same wanted k.0 u (sym r.1) (m.1 k.0 h.1))
+        append-typed w vs at a b wanted k.0 n.0 u n.1 (in-way w vs a wanted (option_map s.List j.0) k.0 m.0 h.0) r (m.1 k.0 h.1)
     judge-typed vs (e.Pair at a b) wanted u i =
         let j = in-turn (wanted_parts at wanted) (λ parts. and_then (judge w vs a parts.0) (λ t. and_then (judge w vs b parts.1) (λ v. Is (s.Pair t v)))) u i in
         let k = in-turn (judge w vs a j.0.0) (λ t. and_then (judge w vs b j.0.1) (λ v. Is (s.Pair t v))) u j.2 in
@@ -127,7 +137,7 @@ module _ (w : World) (known : PartsAreKnown w) where
         let h = judge-typed vs a j.0.0 k.0 k.1 in
         let r = judge-typed vs b j.0.1 l.0 l.1 in
         let d : s.Pair k.0 l.0 ≡ u = cc (l.2) in
-        ((k.0, l.0, ap bare (sym d), in-way w vs a wanted j.0.0 k.0 m.0 h.0, in-way w vs b wanted j.0.1 l.0 m.1 r.0), subst (Meets wanted) d (m.2 k.0 l.0 h.1 r.1))
+        pair-typed w vs at a b wanted k.0 l.0 u d (in-way w vs a wanted j.0.0 k.0 m.0 h.0) (in-way w vs b wanted j.0.1 l.0 m.1 r.0) (m.2 k.0 l.0 h.1 r.1)
     judge-typed vs (e.If at c a b) wanted u i =
         let j = in-turn (judge w vs c (Some Bool)) (λ x. and_then (judge w vs a wanted) (λ t. judge w vs b (Some t))) u i in
         let k = in-turn (judge w vs a wanted) (λ t. judge w vs b (Some t)) u j.2 in

@@ -4,12 +4,12 @@ use Rattle.campl_tree.specs.declared.place.Place.{Place}
 use Rattle.campl_tree.specs.Plain.SeqType.{SeqType}
 use Rattle.campl_tree.specs.Plain.SeqType as s
 use Rattle.campl_types.specs.SameType.{IsSame, bare}
-use Rattle.campl_types.specs.Sequential.{Way, Found, Checked, IsComparable}
+use Rattle.campl_types.specs.Sequential.{Checked, IsComparable}
 use Rattle.campl_types.specs.Missing.{Row, missing}
 use Rattle.campl_types.specs.World.{World}
 use Rattle.campl_types.specs.Forms.{Form}
 use Rattle.std.proofs.Common.{List}
-use Rattle.campl_seqcheck.specs.Judged.{Judged, Is, Fails, Fine, fine, and_then}
+use Rattle.campl_seqcheck.specs.Judged.{Is, Fine}
 use Rattle.campl_seqcheck.specs.Judging.{Wanted, wanted_item, wanted_parts, empty_list, a_list, a_comparable, variable_type, exhaustive}
 use Rattle.campl_seqcheck.proofs.AgreesSame.{Meets}
 use Rattle.campl_seqcheck.proofs.AgreesCalls.{way_for}
@@ -40,6 +40,7 @@ parts-wanted at (Some (s.Pair v w)) parts i = go parts.0 parts.1 (ap (λ (o : Wa
   where
     whole : (Some v, Some w) ≡ parts
     whole = cc i
+
     go : (o q : Wanted) → Some v ≡ o → Some w ≡ q → (way_for o ≡ Checked) × (way_for q ≡ Checked) × ((t u : SeqType) → Meets o t → Meets q u → IsSame (s.Pair t u) (s.Pair v w))
     go None q d e = absurd (cc d)
     go (Some x) None d e = absurd (cc e)
