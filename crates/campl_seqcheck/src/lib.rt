@@ -2,5 +2,7 @@
 #![tactic(auto)]
 
 mod fault;
+mod laws;
 
 pub use fault::SeqFault;
+pub use laws::{law_functions_are_typed, law_judging_is_complete, law_judging_is_sound};
