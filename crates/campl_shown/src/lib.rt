@@ -11,6 +11,8 @@
 
 mod channels;
 mod shown;
+#[cfg(test)]
+mod tests;
 mod types;
 mod variables;
 

@@ -46,7 +46,8 @@ pub(crate) fn push_type<V: Variables>(
         SeqType::Pair(t, u) => {
             text.push_char('(')?;
             push_type(text, variables, t.get())?;
-            push_second(text, variables, u.get())
+            push_next(text, variables, u.get())?;
+            text.push_char(')')
         }
         SeqType::Named(_, x, ts) => {
             text.push_chars(x.as_slice())?;
@@ -71,21 +72,6 @@ fn push_list<V: Variables>(
     text.push_char(']')
 }
 
-/// Puts what stands behind the first type of pairs behind a text.
-#[cycle(types)]
-#[tactic(auto, using(crate::proofs::Pieces::pieces))]
-fn push_second<V: Variables>(
-    text: &mut Shown,
-    variables: &V,
-    t: &SeqType,
-) -> Result<(), AllocError>
-    ensures { OnOk result (text.new ≡ text.old ++ (codes ", " ++ written (V.spelling variables.now) (view_seq t.now) ++ codes ")")) }
-{
-    text.push_str(", ")?;
-    push_type(text, variables, t)?;
-    text.push_char(')')
-}
-
 /// Puts arguments behind a text, in parentheses where there are any.
 #[cycle(types)]
 #[tactic(auto, using(crate::proofs::Pieces::arguments))]
@@ -107,7 +93,7 @@ pub(crate) fn push_arguments<V: Variables>(
     text.push_char(')')
 }
 
-/// Puts an argument behind those before it.
+/// Puts a comma and a type behind a text.
 #[cycle(types)]
 #[tactic(auto, using(crate::proofs::Pieces::pieces))]
 fn push_next<V: Variables>(
