@@ -1,7 +1,6 @@
 -- A call that is judged has the type: what its parameters stand for in the end are its arguments.
 use Rattle.std.proofs.Common.{◌≡◌, ◌∙◌, refl, sym, ap, subst, ℕ, Bool, true, false, ◌||◌, List, [], ◌∷◌, ◌++◌, Option, Some, None, if◌then◌else◌, length, map, IsTrue, true≢false}
 use Rattle.campl_tree.specs.declared.place.Place.{Place}
-use Rattle.campl_tree.specs.Places.{expr_place}
 use Rattle.campl_tree.specs.Plain.SeqType.{SeqType, Variable}
 use Rattle.campl_tree.specs.Plain.Expr as e
 use Rattle.campl_tree.specs.Plain.Expr.{Expr, Exprs}
@@ -13,9 +12,9 @@ use Rattle.campl_types.specs.Substitution.{Filling, filling, filled, types_of, v
 use Rattle.campl_types.specs.Fits.{Vars}
 use Rattle.campl_types.specs.World.{World, variables_of_list, type_parameters, names_of}
 use Rattle.campl_types.specs.Sequential.{Way, Found, Checked, HasType, PartsHaveTypes, whole}
-use Rattle.campl_seqcheck.specs.Judged.{Judged, Is, Fine, and_then, counted}
+use Rattle.campl_seqcheck.specs.Judged.{Judged, Is, Fails, Fine, and_then, counted}
 use Rattle.campl_seqcheck.specs.Matching.{bound_names, is_known, matched}
-use Rattle.campl_seqcheck.specs.Judging.{Wanted, meets, begun, found_so, all_bound, called, judge, judge_parts}
+use Rattle.campl_seqcheck.specs.Judging.{Wanted, meets, begun, all_bound, called, judge, judge_parts}
 use Rattle.campl_seqcheck.proofs.AgreesJudged.{in-turn, counts}
 use Rattle.campl_seqcheck.proofs.AgreesSame.{Meets, meets-is}
 use Rattle.campl_seqcheck.proofs.AgreesNames.{as-false, among-append, or-second, Within, SameNames, among-within, within-among, within-left, within-right, among-same, arguments_in, arguments-long, arguments-fill}
@@ -94,9 +93,28 @@ no-parts f g Parts all i =
     let k : f ≡ g = cc i in
     subst (λ h. PartsFound f [] h Parts) k (record { extends = extends-itself f [] (λ x j. absurd (true≢false (sym j))); typed = λ h known j m. all h known })
 
-found-so-is : (at : Place) (f : Filling) (t u : SeqType) (o : Option Filling) (g : Filling) → found_so at f t u o ≡ Is g → o ≡ Some g
-found-so-is at f t u None g i = absurd (cc i)
-found-so-is at f t u (Some h) g i = let e : h ≡ g = cc i in ap Some e
+-- a part whose parameters stand for something was checked
+known-part : (w : World) (vs : Vars) (f : Filling) (t : SeqType) (ts : List SeqType) (a : Expr) (rest : Exprs) (g : Filling) → is_known f t ≡ true
+    → judge_parts w vs f (t ∷ ts) (e.expr_then a rest) ≡ Is g → (u : SeqType) × (judge w vs a (Some (filled f t)) ≡ Is u) × (judge_parts w vs f ts rest ≡ Is g)
+known-part w vs f t ts a rest g k i = go (judge w vs a (Some (filled f t))) refl
+  where
+    go : (j : Judged SeqType) → judge w vs a (Some (filled f t)) ≡ j → (u : SeqType) × (judge w vs a (Some (filled f t)) ≡ Is u) × (judge_parts w vs f ts rest ≡ Is g)
+    go (Is u) m = (u, m, rw (k, m) at i)
+    go (Fails fault) m = absurd (cc (rw (k, m) at i))
+
+-- another was found, and matched
+open-part : (w : World) (vs : Vars) (f : Filling) (t : SeqType) (ts : List SeqType) (a : Expr) (rest : Exprs) (g : Filling) → is_known f t ≡ false
+    → judge_parts w vs f (t ∷ ts) (e.expr_then a rest) ≡ Is g
+    → (u : SeqType) × (next : Filling) × (judge w vs a None ≡ Is u) × (matched f t u ≡ Some next) × (judge_parts w vs next ts rest ≡ Is g)
+open-part w vs f t ts a rest g k i = go (judge w vs a None) refl
+  where
+    go : (j : Judged SeqType) → judge w vs a None ≡ j → (u : SeqType) × (next : Filling) × (judge w vs a None ≡ Is u) × (matched f t u ≡ Some next) × (judge_parts w vs next ts rest ≡ Is g)
+    go (Fails fault) m = absurd (cc (rw (k, m) at i))
+    go (Is u) m = match (matched f t u) refl
+      where
+        match : (o : Option Filling) → matched f t u ≡ o → (v : SeqType) × (next : Filling) × (judge w vs a None ≡ Is v) × (matched f t v ≡ Some next) × (judge_parts w vs next ts rest ≡ Is g)
+        match None n = absurd (cc (rw (k, m, n) at i))
+        match (Some next) n = (u, next, m, n, rw (k, m, n) at i)
 
 pub one-part : (w : World) (vs : Vars) (f : Filling) (t : SeqType) (ts : List SeqType) (a : Expr) (rest : Exprs) (g : Filling)
     → ((wanted : Wanted) (u : SeqType) → judge w vs a wanted ≡ Is u → Typed w vs a wanted u)
@@ -110,7 +128,7 @@ one-part w vs f t ts a rest g first later i = go (is_known f t) refl
 
     go : (b : Bool) → is_known f t ≡ b → PartsFound f (t ∷ ts) g (λ k known. PartsHaveTypes w vs k known (t ∷ ts) (e.expr_then a rest))
     go true k =
-        let j = in-turn (judge w vs a (Some (filled f t))) (λ u. judge_parts w vs f ts rest) g (rw k at i) in
+        let j = known-part w vs f t ts a rest g k i in
         let m = first (Some (filled f t)) j.0 j.1 in let r = later f j.2 in
         let inside = among-within (variables_of t) (bound_names f) k in
         let own = extends-itself f (variables_of t) inside in
@@ -123,17 +141,16 @@ one-part w vs f t ts a rest g first later i = go (is_known f t) refl
           );
         }
     go false k =
-        let j = in-turn (judge w vs a None) (λ u. and_then (found_so (expr_place a) f t u (matched f t u)) (λ next. judge_parts w vs next ts rest)) g (rw k at i) in
-        let m = first None j.0 j.1 in
-        let l = in-turn (found_so (expr_place a) f t j.0 (matched f t j.0)) (λ next. judge_parts w vs next ts rest) g j.2 in
-        let b = match-fills f t j.0 l.0 (found-so-is (expr_place a) f t j.0 (matched f t j.0) l.0 l.1) in
-        let r = later l.0 l.2 in
+        let j = open-part w vs f t ts a rest g k i in
+        let m = first None j.0 j.2 in
+        let b = match-fills f t j.0 j.1 j.3 in
+        let r = later j.1 j.4 in
         record {
-          extends = extends-on f l.0 g (variables_of t) (variables_of_list ts) b.0 r.extends;
+          extends = extends-on f j.1 g (variables_of t) (variables_of_list ts) b.0 r.extends;
           typed = λ h known n alike. (
             rw (among-same (variables_of t) known (bound_names f) n, k)
-                (type-stable Found w vs a j.0 (filled h t) (sym b.1 ∙ ap bare (sym (alike.0 ∙ filled-kept l.0 g (variables_of_list ts) t r.extends (bound-then f l.0 (variables_of t) b.0)))) m.0),
-            r.typed h (known ++ variables_of t) (known-then l.0 b.0 known n) alike.1,
+                (type-stable Found w vs a j.0 (filled h t) (sym b.1 ∙ ap bare (sym (alike.0 ∙ filled-kept j.1 g (variables_of_list ts) t r.extends (bound-then f j.1 (variables_of t) b.0)))) m.0),
+            r.typed h (known ++ variables_of t) (known-then j.1 b.0 known n) alike.1,
           );
         }
 

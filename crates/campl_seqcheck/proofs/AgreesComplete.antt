@@ -1,5 +1,5 @@
 -- What is typed is judged so, under variables and types that are the same up to places.
-use Rattle.std.proofs.Common.{◌≡◌, ◌∙◌, refl, sym, ap, subst, List, [], ◌∷◌, ◌++◌, Some, None, option_map}
+use Rattle.std.proofs.Common.{◌≡◌, ◌∙◌, refl, sym, ap, subst, List, [], ◌∷◌, ◌++◌, Some, None}
 use Rattle.campl_tree.specs.declared.place.Place.{Place}
 use Rattle.campl_tree.specs.Places.{expr_place}
 use Rattle.campl_tree.specs.Plain.SeqType.{SeqType, Int, Char, Bool}
@@ -36,16 +36,14 @@ record Item (at : Place) (wanted : Wanted) (u : SeqType) : Type 0 where
   item : Wanted
   is : wanted_item at wanted ≡ Is item
   way : way_for wanted ≡ way_for item
-  list_way : way_for wanted ≡ way_for (option_map s.List item)
   met : Meets item u
-  list_met : Meets (option_map s.List item) (s.List u)
 
 item-found : (at : Place) (wanted : Wanted) (t u : SeqType) → IsSame t (s.List u) → Meets wanted t → Item at wanted u
-item-found at None t u same met = record { item = None; is = refl; way = refl; list_way = refl; met = tt; list_met = tt }
+item-found at None t u same met = record { item = None; is = refl; way = refl; met = tt }
 item-found at (Some v) t u same met = go (same-list v u (sym met ∙ same))
   where
     go : (r : SeqType) × (v ≡ s.List r) × IsSame r u → Item at (Some v) u
-    go (r, i, j) = record { item = Some r; is = ap (λ q. wanted_item at (Some q)) i; way = refl; list_way = refl; met = sym j; list_met = ap s.List (sym j) }
+    go (r, i, j) = record { item = Some r; is = ap (λ q. wanted_item at (Some q)) i; way = refl; met = sym j }
 
 -- what is wanted of a pair's parts
 record Parts (at : Place) (wanted : Wanted) (u v : SeqType) : Type 0 where
@@ -87,6 +85,17 @@ a-list-same at v u i = go (same-list v u i)
   where
     go : (r : SeqType) × (v ≡ s.List r) × IsSame r u → a_list at v ≡ Is fine
     go (r, j, k) = ap (a_list at) j
+
+append-judged : (w : World) (vs : Vars) (at : Place) (a b : Expr) (wanted : Wanted) (v r t u : SeqType) → IsSame t (s.List u) → Meets wanted t → IsSame v (s.List u)
+    → judge w vs a wanted ≡ Is v → judge w vs b (Some v) ≡ Is r → judge w vs (e.Append at a b) wanted ≡ Is r
+append-judged w vs at a b None v r t u same met i j k = let l = a-list-same (expr_place a) v u i in rw (j, l) k
+append-judged w vs at a b (Some x) v r t u same met i j k = go (same-list x u (sym met ∙ same))
+  where
+    l : a_list (expr_place a) v ≡ Is fine
+    l = a-list-same (expr_place a) v u i
+
+    go : (y : SeqType) × (x ≡ s.List y) × IsSame y u → judge w vs (e.Append at a b) (Some x) ≡ Is r
+    go (y, m, n) = subst (λ z. judge w vs a (Some z) ≡ Is v → judge w vs (e.Append at a b) (Some z) ≡ Is r) (sym m) (λ o. rw (o, l) k) j
 
 -- what is missing of rows for one type
 covers : (at : Place) (w : World) (rows : ExprRows) (v u : SeqType) → IsSame v u → missing w (expr_rows rows) (u ∷ []) ≡ None → exhaustive at w (expr_rows rows) (v ∷ []) ≡ Is fine
@@ -141,11 +150,9 @@ module _ (w : World) (known : PartsAreKnown w) where
         let q = typed-judged vs us alike b (s.List h.0) (Some (s.List p.0)) h.3 (ap s.List (sym p.2)) in
         (q.0, rw (i.is, p.1) q.1, q.2 ∙ sym h.1)
     typed-judged vs us alike (e.Append at a b) t wanted h met =
-        let i = item-found at wanted t h.0 h.1 met in
-        let p = typed-judged vs us alike a (s.List h.0) (option_map s.List i.item) (subst (λ way. HasType way w vs a (s.List h.0)) i.list_way h.2) i.list_met in
-        let l = a-list-same (expr_place a) p.0 h.0 p.2 in
+        let p = typed-judged vs us alike a (s.List h.0) wanted h.2 (meets-same wanted t (s.List h.0) h.1 met) in
         let q = typed-judged vs us alike b (s.List h.0) (Some p.0) h.3 (sym p.2) in
-        (q.0, rw (i.is, p.1, l) q.1, q.2 ∙ sym h.1)
+        (q.0, append-judged w us at a b wanted p.0 q.0 t h.0 h.1 met p.2 p.1 q.1, q.2 ∙ sym h.1)
     typed-judged vs us alike (e.Pair at a b) t wanted h met =
         let i = parts-found at wanted t h.0 h.1 h.2 met in
         let p = typed-judged vs us alike a h.0 i.first (subst (λ way. HasType way w vs a h.0) i.first_way h.3) i.first_met in

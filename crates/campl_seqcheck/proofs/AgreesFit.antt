@@ -1,5 +1,5 @@
 -- A pattern that is judged fits, and its variables differ from each other and from those before it.
-use Rattle.std.proofs.Common.{◌≡◌, ◌∙◌, refl, sym, ap, subst, suc, Bool, true, false, ◌||◌, ◌⊎◌, inl, inr, List, [], ◌∷◌, ◌++◌, Option, Some, None, map, length, append_assoc, true≢false}
+use Rattle.std.proofs.Common.{eqb, eqb-true, ◌≡◌, ◌∙◌, refl, sym, ap, subst, suc, Bool, true, false, ◌||◌, ◌⊎◌, inl, inr, List, [], ◌∷◌, ◌++◌, Option, Some, None, map, length, append_assoc, true≢false}
 use Rattle.campl_tree.specs.declared.place.Place.{Place}
 use Rattle.campl_tree.specs.Plain.SeqType.{SeqType}
 use Rattle.campl_tree.specs.Plain.SeqType as s
@@ -13,9 +13,9 @@ use Rattle.campl_types.specs.Patterns.{bound_in, bound_in_all}
 use Rattle.campl_types.specs.Fits.{Vars, both, fits, each_fits, all_fit}
 use Rattle.campl_types.specs.Values.{parts_at}
 use Rattle.campl_types.specs.World.{World, names_of, ConstructorEntry, OfData, OfProtocol, OfCoprotocol, constructor_named}
-use Rattle.campl_seqcheck.specs.Judged.{Is, and_then, counted}
-use Rattle.campl_seqcheck.specs.Fitting.{variable_names, number_of, arguments_of, fit, fit_each, fit_all}
-use Rattle.campl_seqcheck.proofs.AgreesJudged.{in-turn, counts}
+use Rattle.campl_seqcheck.specs.Judged.{Is}
+use Rattle.campl_seqcheck.specs.Fitting.{variable_names, number_of, fit, fit_each, fit_all}
+use Rattle.campl_seqcheck.proofs.AgreesJudged.{in-turn}
 use Rattle.campl_seqcheck.proofs.AgreesNames.{or-split, among-append, Apart, distinct-append}
 
 -- what fits binds these names, which differ from those before
@@ -88,14 +88,6 @@ one-fitted at w xs ys x t i = go (is_among x (variable_names xs)) refl
         other y (inl k) = subst (λ z. is_among z (variable_names xs) ≡ false) (sym (same-is y x k)) e
         other y (inr k) = absurd (true≢false (sym k))
 
--- the arguments at which a data type stands
-arguments-is : (at : Place) (d : DataDecl) (there : Place) (x : Name) (ts : s.SeqTypes) (us : List SeqType) → arguments_of at d (s.Named there x ts) ≡ Is us → (same_name d.name.name x ≡ true) × (types.list_of ts ≡ us)
-arguments-is at d there x ts us i = go (same_name d.name.name x) refl
-  where
-    go : (b : Bool) → same_name d.name.name x ≡ b → (same_name d.name.name x ≡ true) × (types.list_of ts ≡ us)
-    go true e = let f : Is (types.list_of ts) ≡ Is us = rw e at i in let g : types.list_of ts ≡ us = cc f in (e, g)
-    go false e = absurd (cc (rw e at i))
-
 pub parts-long : (d : DataDecl) (ts : List SeqType) (k : DataConstructor) → length (parts_at d ts k) ≡ length k.parts
 parts-long d ts k = go k.parts
   where
@@ -113,16 +105,21 @@ built-fits w xs at k ps t ys parts i = go (constructor_named w k) refl
     go None e = absurd (cc (rw e at i))
     go (Some (OfProtocol d n c)) e = absurd (cc (rw e at i))
     go (Some (OfCoprotocol d n c)) e = absurd (cc (rw e at i))
-    go (Some (OfData d n c)) e =
-        let j = in-turn (counted at (number_of ps) (length c.parts)) (λ f. and_then (arguments_of at d t) (λ ts. fit_all w xs ps (parts_at d ts c))) ys (rw e at i) in
-        let h = in-turn (arguments_of at d t) (λ ts. fit_all w xs ps (parts_at d ts c)) ys j.2 in
-        at-type t h.0 h.1 (parts (parts_at d h.0 c) (counts at (number_of ps) (length c.parts) j.0 j.1 ∙ sym (parts-long d h.0 c)) h.2)
+    go (Some (OfData d n c)) e = number (eqb (number_of ps) (length c.parts)) refl
       where
-        at-type : (u : SeqType) (ts : List SeqType) → arguments_of at d u ≡ Is ts → Fitted (all_fit w ps (parts_at d ts c)) (bound_in_all ps) xs ys → Fitted (fits w (Constructor at k ps) u) (bound_in_all ps) xs ys
-        at-type (s.Named there x us) ts a f =
-            let b = arguments-is at d there x us ts a in
-            rw (e, b.0, b.1) f
-        at-type _ ts a f = absurd (cc a)
+        at-type : eqb (number_of ps) (length c.parts) ≡ true → (u : SeqType) → fit w xs (Constructor at k ps) u ≡ Is ys → Fitted (fits w (Constructor at k ps) u) (bound_in_all ps) xs ys
+        at-type m (s.Named there x us) h = own (same_name d.name.name x) refl
+          where
+            own : (b : Bool) → same_name d.name.name x ≡ b → Fitted (fits w (Constructor at k ps) (s.Named there x us)) (bound_in_all ps) xs ys
+            own true f =
+                let ts = types.list_of us in
+                rw (e, f) (parts (parts_at d ts c) (eqb-true (number_of ps) (length c.parts) m ∙ sym (parts-long d ts c)) (rw (e, m, f) at h))
+            own false f = absurd (cc (rw (e, m, f) at h))
+        at-type m _ h = absurd (cc (rw (e, m) at h))
+
+        number : (b : Bool) → eqb (number_of ps) (length c.parts) ≡ b → Fitted (fits w (Constructor at k ps) t) (bound_in_all ps) xs ys
+        number true m = at-type m t i
+        number false m = absurd (cc (rw (e, m) at i))
 
 mutual
   pub fit-fits : (w : World) (xs : Vars) (a : Pattern) (t : SeqType) (ys : Vars) → fit w xs a t ≡ Is ys → Fitted (fits w a t) (bound_in a) xs ys

@@ -15,3 +15,4 @@ pub mod AgreesFinds
 pub mod AgreesComplete
 pub mod AgreesFunctions
 pub mod AgreesLaws
+mod AgreesExamples
