@@ -5,4 +5,7 @@ mod fault;
 mod laws;
 
 pub use fault::SeqFault;
-pub use laws::{law_functions_are_typed, law_judging_is_complete, law_judging_is_sound};
+pub use laws::{
+    law_functions_are_typed, law_judging_is_complete, law_judging_is_sound,
+    law_types_are_found_once,
+};
