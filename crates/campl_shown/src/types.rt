@@ -60,11 +60,7 @@ pub(crate) fn push_type<V: Variables>(
 /// Puts the type of lists behind a text.
 #[cycle(types)]
 #[tactic(auto, using(crate::proofs::Pieces::pieces))]
-fn push_list<V: Variables>(
-    text: &mut Shown,
-    variables: &V,
-    t: &SeqType,
-) -> Result<(), AllocError>
+fn push_list<V: Variables>(text: &mut Shown, variables: &V, t: &SeqType) -> Result<(), AllocError>
     ensures { OnOk result (text.new ≡ text.old ++ (codes "[" ++ written (V.spelling variables.now) (view_seq t.now) ++ codes "]")) }
 {
     text.push_char('[')?;
@@ -96,11 +92,7 @@ pub(crate) fn push_arguments<V: Variables>(
 /// Puts a comma and a type behind a text.
 #[cycle(types)]
 #[tactic(auto, using(crate::proofs::Pieces::pieces))]
-fn push_next<V: Variables>(
-    text: &mut Shown,
-    variables: &V,
-    t: &SeqType,
-) -> Result<(), AllocError>
+fn push_next<V: Variables>(text: &mut Shown, variables: &V, t: &SeqType) -> Result<(), AllocError>
     ensures { OnOk result (text.new ≡ text.old ++ (codes ", " ++ written (V.spelling variables.now) (view_seq t.now))) }
 {
     text.push_str(", ")?;

@@ -135,12 +135,7 @@ impl Filling {
 
     /// What a type variable stands for, or itself.
     #[tactic(auto, using(crate::proofs::Fillings::variables))]
-    fn filled_variable(
-        &self,
-        alloc: Global,
-        at: Place,
-        name: &Name,
-    ) -> Result<SeqType, AllocError>
+    fn filled_variable(&self, alloc: Global, at: Place, name: &Name) -> Result<SeqType, AllocError>
         ensures { IfOk result (λ u. view_seq u ≡ unwrap_or (found name.now (view_filling self.now)) (s.Variable at name.now)) }
     {
         match self.find(name) {
