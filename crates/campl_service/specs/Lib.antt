@@ -1,0 +1,4 @@
+pub mod Scripts
+pub mod Transcripts
+pub mod Services
+pub mod Output
