@@ -2,12 +2,10 @@
 ghost use Rattle.std.specs.Prelude.{◌≡◌, ◌≤◌, IfOk, length};
 ghost use Rattle.campl_value.specs.Text.{text_of};
 
+use crate::limits::TEXT_MAX;
 use campl_value::{Made, Value};
 use std::alloc::{AllocError, Global};
 use std::marker::Model;
-
-/// How many characters the text of a line has at most.
-pub const TEXT_MAX: usize = 1024;
 
 /// The text of a line, which contracts see as the list of its characters.
 #[derive(Drop)]
@@ -18,7 +16,7 @@ pub struct Line {
 impl Model for Line {
     ghost use Rattle.std.specs.Prelude.{List, ℕ, ◌≤◌, vec_len};
     ghost use Rattle.std.specs.Coded.{coded_list, coded_ℕ};
-    ghost use Rattle.campl_service.specs.declared.line.TheConstants.{TEXT_MAX};
+    ghost use Rattle.campl_service.specs.declared.limits.TheConstants.{TEXT_MAX};
 
     ghost Value = { List ℕ };
 
@@ -37,6 +35,13 @@ impl Line {
     {
         let characters = Vec::from_slice(alloc, characters)?;
         Ok(Line { characters })
+    }
+
+    /// A second copy of the line. An error means that memory is out.
+    pub fn copy(&self, alloc: Global) -> Result<Line, AllocError>
+        ensures { IfOk result (λ line. line ≡ self.now) }
+    {
+        Line::of(alloc, self.as_slice())
     }
 
     /// The characters of the line.

@@ -24,7 +24,7 @@ impl Noted {
     {
         Ok(match self {
             Noted::Took(text) => Noted::Took(text.copy()?),
-            Noted::Sent(line) => Noted::Sent(Line::of(alloc, line.as_slice())?),
+            Noted::Sent(line) => Noted::Sent(line.copy(alloc)?),
             Noted::Closed => Noted::Closed,
         })
     }

@@ -91,6 +91,16 @@ impl Scripts {
         Ok(Scripts { scripts, alloc })
     }
 
+    // Puts a script behind the others.
+    pub(crate) fn push(&mut self, script: Script) -> Result<(), AllocError>
+        ensures { OnOk result (self.new ≡ self.old ++ script ∷ []) }
+    {
+        match self.scripts.push(script) {
+            Ok(()) => Ok(()),
+            Err(_) => Err(AllocError),
+        }
+    }
+
     /// How many scripts there are.
     pub fn len(&self) -> usize
         ensures { result ≡ length self.now }
