@@ -12,6 +12,13 @@ use Rattle.campl_service.specs.Scripts.{Lines}
 use Rattle.campl_service.specs.Transcripts.{Took, Sent, Closed, Records}
 use Rattle.campl_service.specs.Services.{Serving, request, action, want}
 use Rattle.campl_service.specs.Output.{transcript_lines}
+use Rattle.std.proofs.Common.{Ok, Err, Bool, true, List}
+use Rattle.campl_tree.specs.declared.service.ServiceName.{ServiceName}
+use Rattle.campl_tree.specs.declared.service.Side.TheVariants.{Input, Output}
+use Rattle.campl_service.specs.declared.entry.Version.TheVariants.{One, Two}
+use Rattle.campl_service.specs.declared.fault.ScriptFault.TheVariants.{NoColon, UnknownChannel, LineTooLong, TooManyLines, BadEscape}
+use Rattle.campl_service.specs.Escapes.{unescaped}
+use Rattle.campl_service.specs.Reading.{lines_of, scripts_of, judged_line}
 
 abbrev service : Phase → Lines → Records → Serving
 service phase script transcript = record { kind = Terminal; phase = phase; script = script; transcript = transcript }
@@ -49,3 +56,50 @@ nothing_more = refl
 printed : transcript_lines (Took (97 ∷ 9 ∷ 98 ∷ 92 ∷ []) ∷ Sent (codes "hi") ∷ Closed ∷ []) ≡ codes "> a\\tb\\\\\n< hi\nclosed\n"
 unfolding lib.Utf8.encode
 printed = refl
+
+-- ---- reading
+
+abbrev heading : List ServiceName
+heading = record { name = codes "a"; side = Input } ∷ record { name = codes "b"; side = Output } ∷ []
+
+-- lines end with LF, and one CR before their end is dropped; nothing behind the last LF is no line
+some_lines : lines_of (codes "x\r\n\ny") ≡ codes "x" ∷ [] ∷ codes "y" ∷ []
+some_lines = refl
+
+no_last_line : lines_of (codes "x\n") ≡ codes "x" ∷ []
+no_last_line = refl
+
+a_return_alone : lines_of (13 ∷ []) ≡ [] ∷ []
+a_return_alone = refl
+
+-- the lines of a channel keep their order, and one leading space is dropped
+two_channels : scripts_of heading (codes "b:  1\n\na:2\nb: 3:4\n") ≡ Ok ((codes "2" ∷ []) ∷ (codes " 1" ∷ codes "3:4" ∷ []) ∷ [])
+two_channels = refl
+
+-- an empty line is counted
+no_colon : scripts_of heading (codes "a: 1\n\na\n") ≡ Err (NoColon 3)
+no_colon = refl
+
+unknown_channel : scripts_of heading (codes "c: 1") ≡ Err (UnknownChannel 1)
+unknown_channel = refl
+
+-- in version 1 a backslash stands for itself
+a_backslash : scripts_of heading (codes "a: \\q") ≡ Ok ((codes "\\q" ∷ []) ∷ [] ∷ [])
+a_backslash = refl
+
+-- version 2
+escapes : scripts_of heading (codes "campl script 2\nb: a\\tb\\\\") ≡ Ok ([] ∷ (codes "a\tb\\" ∷ []) ∷ [])
+escapes = refl
+
+bad_escape : scripts_of heading (codes "campl script 2\nb: \\q") ≡ Err (BadEscape 2)
+bad_escape = refl
+
+a_number : unescaped 0 (codes "\\u{41}\\n") ≡ Some (65 ∷ 10 ∷ [])
+a_number = refl
+
+-- the last line that there may be, and the one behind it
+a_last_line : judged_line One (λ name. true) 100000 [] ≡ Ok None
+a_last_line = refl
+
+too_many_lines : judged_line One (λ name. true) 100001 [] ≡ Err (TooManyLines 100001)
+too_many_lines = refl

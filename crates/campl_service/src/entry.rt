@@ -115,9 +115,7 @@ fn read_named(
 fn is_known(names: &[ServiceName], name: &[char]) -> bool
     ensures { result ≡ is_known names.now name.now }
 {
-    names
-        .iter()
-        .any(|service| service.name.as_slice() == name)
+    names.iter().any(|service| service.name.as_slice() == name)
 }
 
 fn without_space(text: &[char]) -> &[char]

@@ -108,11 +108,7 @@ fn scripts_for(
 }
 
 // The texts for this channel, in order.
-fn script_for(
-    alloc: Global,
-    name: &Name,
-    entries: &[Option<Entry>],
-) -> Result<Script, AllocError>
+fn script_for(alloc: Global, name: &Name, entries: &[Option<Entry>]) -> Result<Script, AllocError>
     ensures { IfOk result (λ script. script ≡ texts_for name.now entries.now) }
 {
     let mut script = Script::empty(alloc);
