@@ -1,0 +1,6 @@
+pub mod Scripts
+pub mod Transcripts
+pub mod Services
+pub mod Output
+pub mod Escapes
+pub mod Reading

@@ -1,0 +1,139 @@
+-- How a script is read. A character is its code: 10 is LF, 32 a space, 58 a colon.
+use Rattle.std.specs.Prelude.{◌≡◌, ◌≢◌, ℕ, suc, ◌+◌, ◌==◌, not, Bool, nat_le, nat_lt, if◌then◌else◌, List, [], ◌∷◌, length, take, drop, map, Option, Some, None, Result, Ok, Err, MatchResult, codes, nat_eq, Vec}
+use Rattle.std.specs.Cmp.Lexicographic.{pointwise}
+use Rattle.std.specs.List.{prefix_len, list_any}
+use Rattle.std.specs.Str.Lines.{strip_carriage_return}
+use Rattle.campl_tree.specs.declared.service.ServiceName.{ServiceName}
+use Rattle.campl_service.specs.declared.limits.TheConstants.{LINES_MAX, LINE_MAX, VERSION_2_LINES_MAX, VERSION_2_LINE_MAX, TEXT_MAX}
+use Rattle.campl_service.specs.declared.entry.Version.{Version}
+use Rattle.campl_service.specs.declared.entry.Version.TheVariants.{One, Two}
+use Rattle.campl_service.specs.declared.entry.Entry.{Entry}
+use Rattle.campl_service.specs.declared.fault.ScriptFault.{ScriptFault}
+use Rattle.campl_service.specs.declared.fault.ScriptFault.TheVariants.{NoColon, UnknownChannel, LineTooLong, TooManyLines, BadEscape, OutOfMemory}
+use Rattle.campl_service.specs.Scripts.{Lines}
+use Rattle.campl_service.specs.Escapes.{unescaped}
+
+-- ---- lines
+
+abbrev pub put_first : ℕ → Lines → Lines
+put_first c [] = (c ∷ []) ∷ []
+put_first c (piece ∷ more) = (c ∷ piece) ∷ more
+
+-- the pieces that end with LF, and what stands behind the last LF, where something does
+abbrev pub pieces : List ℕ → Lines
+pieces [] = []
+pieces (c ∷ cs) = if c == 10 then [] ∷ pieces cs else put_first c (pieces cs)
+
+-- the lines of a text: its pieces, each without one CR at its end
+abbrev pub lines_of : List ℕ → Lines
+lines_of characters = map strip_carriage_return (pieces characters)
+
+-- ---- a line
+
+abbrev pub most_lines : Version → ℕ
+most_lines One = LINES_MAX
+most_lines Two = VERSION_2_LINES_MAX
+
+abbrev pub most_characters : Version → ℕ
+most_characters One = LINE_MAX
+most_characters Two = VERSION_2_LINE_MAX
+
+abbrev pub same_name : List ℕ → List ℕ → Bool
+same_name x y = pointwise nat_eq x y
+
+-- a name of the heading
+abbrev pub is_known : List ServiceName → List ℕ → Bool
+is_known names name = list_any (λ s. same_name s.name name) names
+
+-- one leading space is dropped
+abbrev pub without_space : List ℕ → List ℕ
+without_space [] = []
+without_space (c ∷ cs) = if c == 32 then cs else c ∷ cs
+
+-- what a text stands for, where its escapes are good
+abbrev pub text_meant : Version → List ℕ → Option (List ℕ)
+text_meant One text = Some text
+text_meant Two text = unescaped 0 text
+
+-- what a line says: a text for a channel, or nothing
+abbrev pub Said : Type 0
+Said = Result (Option Entry) ScriptFault
+
+-- the text after its escapes
+abbrev pub judged_text : ℕ → List ℕ → Option (List ℕ) → Said
+judged_text n name None = Err (BadEscape n)
+judged_text n name (Some text) = if nat_le (length text) TEXT_MAX then Ok (Some (record { name = name; text = text })) else Err (LineTooLong n)
+
+-- a name before the colon, and what stands behind it
+abbrev pub judged_name : Version → (List ℕ → Bool) → ℕ → List ℕ → List ℕ → Said
+judged_name v known n name text = if known name then judged_text n name (text_meant v (without_space text)) else Err (UnknownChannel n)
+
+-- how many characters stand before the first colon
+abbrev pub colon_at : List ℕ → ℕ
+colon_at line = prefix_len (λ c. not (c == 58)) line
+
+-- a line that isn't empty
+abbrev pub judged_content : Version → (List ℕ → Bool) → ℕ → List ℕ → Said
+judged_content v known n line =
+    if nat_lt (colon_at line) (length line) then judged_name v known n (take (colon_at line) line) (drop (colon_at line + 1) line)
+    else Err (NoColon n)
+
+-- the line of number n, which is judged in this order: too many lines, too long, no colon, an unknown name, a bad escape, too long after escapes; an empty line says nothing
+abbrev pub judged_line : Version → (List ℕ → Bool) → ℕ → List ℕ → Said
+judged_line v known n line =
+    if nat_lt (most_lines v) n then Err (TooManyLines n)
+    else if nat_lt (most_characters v) (length line) then Err (LineTooLong n)
+    else if length line == 0 then Ok None
+    else judged_content v known n line
+
+-- ---- all lines
+
+abbrev pub Sayings : Type 0
+Sayings = Result (List (Option Entry)) ScriptFault
+
+abbrev pub and_then : Said → Sayings → Sayings
+and_then (Err fault) rest = Err fault
+and_then (Ok said) (Ok more) = Ok (said ∷ more)
+and_then (Ok said) (Err fault) = Err fault
+
+-- what the lines from number n on say, or the first fault
+abbrev pub judged_lines : Version → (List ℕ → Bool) → ℕ → Lines → Sayings
+judged_lines v known n [] = Ok []
+judged_lines v known n (line ∷ more) = and_then (judged_line v known n line) (judged_lines v known (suc n) more)
+
+-- the first line of a script of version 2
+abbrev pub is_version_line : List ℕ → Bool
+is_version_line line = pointwise nat_eq line (codes "campl script 2")
+
+-- the version line carries no text and is counted
+abbrev pub judged : (List ℕ → Bool) → Lines → Sayings
+judged known [] = Ok []
+judged known (line ∷ more) = if is_version_line line then judged_lines Two known 2 more else judged_lines One known 1 (line ∷ more)
+
+-- ---- scripts
+
+-- the texts for a channel, in order
+abbrev pub texts_for : List ℕ → List (Option Entry) → Lines
+texts_for name [] = []
+texts_for name (None ∷ more) = texts_for name more
+texts_for name (Some said ∷ more) = if same_name said.name name then said.text ∷ texts_for name more else texts_for name more
+
+-- a script for each channel
+abbrev pub scripts_for : List ServiceName → List (Option Entry) → List Lines
+scripts_for names said = map (λ s. texts_for s.name said) names
+
+abbrev pub scripts_said : List ServiceName → Sayings → Result (List Lines) ScriptFault
+scripts_said names (Ok said) = Ok (scripts_for names said)
+scripts_said names (Err fault) = Err fault
+
+-- the scripts of a text, or its first fault
+abbrev pub scripts_of : List ServiceName → (characters : List ℕ) → Result (List Lines) ScriptFault
+scripts_of names characters = scripts_said names (judged (is_known names) (lines_of characters))
+
+-- what is wanted is answered; want of memory alone comes freely
+abbrev pub Answers : {A : Type 0} → Result A ScriptFault → Result A ScriptFault → Type 0
+Answers wanted result = MatchResult result (λ x. wanted ≡ Ok x) (λ fault. fault ≢ OutOfMemory → wanted ≡ Err fault)
+
+-- the same of a list that a vector holds
+abbrev pub AnswersAll : {Z : Type 0} → Sayings → Result (Vec (Option Entry) Z) ScriptFault → Type 0
+AnswersAll wanted result = MatchResult result (λ said. wanted ≡ Ok said.items) (λ fault. fault ≢ OutOfMemory → wanted ≡ Err fault)

@@ -1,0 +1,17 @@
+-- Scripts as lists of lines.
+use Rattle.std.specs.Prelude.{◌≡◌, ℕ, List, [], ◌∷◌, Option, Some, None}
+use Rattle.std.specs.Borrow.{Bor}
+
+-- the lines of a script, each by its characters
+abbrev pub Lines : Type 0
+Lines = List (List ℕ)
+
+-- the first line, if there is one
+abbrev pub IsFirst : Lines → Option (Bor (List ℕ)) → Type 0
+IsFirst lines None = lines ≡ []
+IsFirst lines (Some first) = (rest : Lines) × (lines ≡ first.now ∷ rest)
+
+-- the first line is taken, if there is one
+abbrev pub TakesFirst : (old : Lines) → Option (List ℕ) → (new : Lines) → Type 0
+TakesFirst old None new = (old ≡ []) × (new ≡ [])
+TakesFirst old (Some first) new = old ≡ first ∷ new

@@ -1,0 +1,40 @@
+//! Services, which stand at the far ends of `run`'s channels, and the scripts that they send.
+//!
+//! A service takes constructors and texts and sends the lines of its script, one action at a time
+//! (`service`), and writes each text, each line and its end down in a transcript (`transcript`), whose
+//! lines are printed with escapes (`shown`). A script is a list of lines (`script`, `line`).
+//!
+//! ```text
+//! let mut scripts = Scripts::none(alloc, 1)?;
+//! let mut console = Service::new(alloc, ServiceKind::Console, scripts.take(0));
+//! console.act(Some(Message::Pick(0)))?; // ConsolePut
+//! console.act(Some(Message::Word(hello)))?;
+//! console.transcript().append_to(&mut bytes)?; // > Hello
+//! ```
+#![tactic(auto)]
+
+mod characters;
+mod entry;
+mod escapes;
+mod fault;
+mod laws;
+mod limits;
+mod line;
+mod phase;
+mod reading;
+mod record;
+mod script;
+mod service;
+mod shown;
+#[cfg(test)]
+mod tests;
+mod transcript;
+
+pub use fault::ScriptFault;
+pub use laws::law_actions;
+pub use limits::{LINE_MAX, LINES_MAX, TEXT_MAX, VERSION_2_LINE_MAX, VERSION_2_LINES_MAX};
+pub use phase::{ServiceKind, Want};
+pub use reading::read_script;
+pub use script::{Script, Scripts};
+pub use service::{Service, ServiceRefused};
+pub use transcript::Transcript;
