@@ -1,2 +1,24 @@
 //! The missing pattern: what rows of patterns leave uncovered.
+//!
+//! A [`Form`] is what a pattern asks of a value: [`form_of`] tells it, and [`forms_text`] writes it as a
+//! pattern again. [`missing`] answers the first list of forms, in the fixed order of trials of
+//! `campl_types/specs/Missing`, that no row covers. Of the rows `Red` and `Blue` it is `Green`, where Green
+//! is declared between them.
+//!
+//! In reading order: `form` and `pattern`, `head` with what a value may begin with, `opened` with the rows
+//! that fit it, `missing`, `text`.
 #![tactic(auto)]
+
+mod form;
+mod head;
+mod opened;
+mod pattern;
+mod search;
+#[cfg(test)]
+mod tests;
+mod text;
+
+pub use form::Form;
+pub use pattern::form_of;
+pub use search::missing;
+pub use text::forms_text;

@@ -1,0 +1,241 @@
+-- How deep heads are tried inside heads: each that is tried leaves rows that weigh less, and has at most so
+-- many parts as some constructor of the world.
+use Rattle.std.proofs.Common.{◌≡◌, refl, sym, ap, subst, ◌∙◌, ℕ, zero, suc, ◌+◌, ◌*◌, ◌≤◌, ◌<◌, max, Bool, true, false, ◌&&◌, List, [], ◌∷◌, ◌++◌, Option, Some, None, if◌then◌else◌, map, length, option_map, arith, eqb, get_or}
+use Rattle.campl_tree.specs.Plain.Decl.{Decl, Data, Protocol, Coprotocol, Function, Process, DataDecl, DataConstructor}
+use Rattle.std.proofs.Math.Nat.{mul-le-mul_left}
+use Rattle.campl_tree.specs.declared.place.Place.{Place}
+use Rattle.campl_tree.specs.Plain.SeqType.{SeqType, SeqTypes, Int, Char, Named}
+use Rattle.campl_tree.specs.Plain.SeqType as s
+use Rattle.campl_tree.specs.View.{view_seq}
+use Rattle.campl_tree.specs.declared.types.SeqType as declared
+use Rattle.campl_types.specs.Names.{Name, same_name}
+use Rattle.campl_types.specs.Forms as f
+use Rattle.campl_types.specs.Forms.{Form, Forms, anythings}
+use Rattle.campl_types.specs.Substitution as types
+use Rattle.campl_types.specs.World.{World, TypeEntry, DataType, ProtocolType, CoprotocolType, type_named, as_data, data_named, or_else, where_named, type_entry}
+use Rattle.campl_types.specs.Missing.{Row, Head, IsNumber, IsCharacter, IsTruth, IsNil, IsCons, IsPair, IsBuilt, IsOther, parts_of, heads, literals, opened, opened_rows, and_then, is_open, all_open, column, weight, weights, row_weight, rows_weight}
+use Rattle.campl_missing.specs.Heads.{data_heads, constructor_heads}
+
+-- Weights
+
+weight-append : (qs ps : Row) → row_weight (qs ++ ps) ≡ row_weight qs + row_weight ps
+weight-append [] ps = omega arith
+weight-append (q ∷ qs) ps = let i : row_weight (qs ++ ps) ≡ row_weight qs + row_weight ps = weight-append qs ps in omega (arith, i)
+
+weight-anythings : (n : ℕ) → row_weight (anythings n) ≡ 0
+weight-anythings zero = refl
+weight-anythings (suc n) = let i : row_weight (anythings n) ≡ 0 = weight-anythings n in omega (arith, i)
+
+weight-parts : (ps : Forms) → weights ps ≡ row_weight (f.list_of ps)
+weight-parts f.none = refl
+weight-parts (f.more p ps) = let i : weights ps ≡ row_weight (f.list_of ps) = weight-parts ps in omega (arith, i)
+
+-- what an open pattern is opened to weighs nothing, and what another is opened to weighs less than it
+abbrev one_if_closed : Bool → ℕ
+one_if_closed true = 0
+one_if_closed false = 1
+
+so-weight : (b : Bool) (ps qs : List Form) → (if b then Some ps else None) ≡ Some qs → row_weight qs ≡ row_weight ps
+so-weight true ps qs i = let e : ps ≡ qs = cc i in ap row_weight (sym e)
+so-weight false ps qs i = absurd (cc i)
+
+some-weight : (ps qs : List Form) → Some ps ≡ Some qs → row_weight qs ≡ row_weight ps
+some-weight ps qs i = let e : ps ≡ qs = cc i in ap row_weight (sym e)
+
+opened-weight : (h : Head) (p : Form) (qs : List Form) → opened h p ≡ Some qs → row_weight qs + one_if_closed (is_open p) ≤ weight p
+opened-weight h f.Anything qs i = let a = some-weight (anythings (length (parts_of h))) qs i in let z = weight-anythings (length (parts_of h)) in omega (arith, a, z)
+opened-weight h (f.Variable x) qs i = let a = some-weight (anythings (length (parts_of h))) qs i in let z = weight-anythings (length (parts_of h)) in omega (arith, a, z)
+opened-weight (IsNumber m) (f.Number n) qs i = let a = so-weight _ [] qs i in omega (arith, a)
+opened-weight (IsCharacter c) (f.Character d) qs i = let a = so-weight _ [] qs i in omega (arith, a)
+opened-weight (IsTruth b) (f.Truth c) qs i = let a = so-weight _ [] qs i in omega (arith, a)
+opened-weight IsNil f.Nil qs i = let a = some-weight [] qs i in omega (arith, a)
+opened-weight (IsCons t) (f.Cons p q) qs i = let a : row_weight qs ≡ weight p + (weight q + 0) = some-weight (p ∷ q ∷ []) qs i in omega (arith, a)
+opened-weight (IsPair t u) (f.Pair p q) qs i = let a : row_weight qs ≡ weight p + (weight q + 0) = some-weight (p ∷ q ∷ []) qs i in omega (arith, a)
+opened-weight (IsBuilt k ts) (f.Built x ps) qs i =
+    let a : row_weight qs ≡ row_weight (f.list_of ps) = so-weight (same_name k x && eqb (length ts) (length (f.list_of ps))) (f.list_of ps) qs i in
+    let b : weights ps ≡ row_weight (f.list_of ps) = weight-parts ps in omega (arith, a, b)
+opened-weight _ _ qs i = absurd (cc i)
+
+closed-weight : (p : Form) → one_if_closed (is_open p) ≤ weight p
+closed-weight f.Anything = omega arith
+closed-weight (f.Variable x) = omega arith
+closed-weight (f.Number n) = omega arith
+closed-weight (f.Character n) = omega arith
+closed-weight (f.Truth b) = omega arith
+closed-weight f.Nil = omega arith
+closed-weight (f.Cons p q) = omega arith
+closed-weight (f.Pair p q) = omega arith
+closed-weight (f.Built x ps) = omega arith
+
+either-closed : (a b : Bool) → one_if_closed (a && b) ≤ one_if_closed a + one_if_closed b
+either-closed true b = omega arith
+either-closed false b = omega arith
+
+pub rows-lighter : (h : Head) (rows : List Row) → rows_weight (opened_rows h rows) + one_if_closed (all_open (column rows)) ≤ rows_weight rows
+rows-lighter h [] = omega arith
+rows-lighter h ([] ∷ rows) = let i = rows-lighter h rows in omega (arith, i)
+rows-lighter h ((p ∷ ps) ∷ rows) = go (opened h p) refl (rows-lighter h rows) (either-closed (is_open p) (all_open (column rows)))
+  where
+    go : (o : Option (List Form)) → opened h p ≡ o → rows_weight (opened_rows h rows) + one_if_closed (all_open (column rows)) ≤ rows_weight rows → one_if_closed (is_open p && all_open (column rows)) ≤ one_if_closed (is_open p) + one_if_closed (all_open (column rows)) → rows_weight (and_then (option_map (λ (parts : List Form). parts ++ ps) o) (opened_rows h rows)) + one_if_closed (is_open p && all_open (column rows)) ≤ weight p + row_weight ps + rows_weight rows
+    go None i later e = let c = closed-weight p in omega (arith, later, e, c)
+    go (Some qs) i later e = let a : row_weight (qs ++ ps) ≡ row_weight qs + row_weight ps = weight-append qs ps in let b = opened-weight h p qs i in omega (arith, a, b, later, e)
+
+-- Parts
+
+-- the parts of all constructors of a world
+abbrev line_parts : List DataConstructor → ℕ
+line_parts [] = 0
+line_parts (k ∷ ks) = length k.parts + line_parts ks
+
+abbrev decl_parts : Decl → ℕ
+decl_parts (Data d) = line_parts d.constructors
+decl_parts (Protocol d) = 0
+decl_parts (Coprotocol d) = 0
+decl_parts (Function d) = 0
+decl_parts (Process d) = 0
+
+abbrev all_parts : World → ℕ
+all_parts [] = 0
+all_parts (d ∷ ds) = decl_parts d + all_parts ds
+
+-- a bound on the parts of a head
+abbrev pub most_parts : World → ℕ
+most_parts w = 2 + all_parts w
+
+abbrev pub AllWithin : ℕ → List Head → Type 0
+AllWithin n [] = Unit {0}
+AllWithin n (h ∷ hs) = (length (parts_of h) ≤ n) × AllWithin n hs
+
+length-map : {A B : Type 0} → (g : A → B) (xs : List A) → length (map g xs) ≡ length xs
+length-map g [] = refl
+length-map g (x ∷ xs) = let i : length (map g xs) ≡ length xs = length-map g xs in omega (arith, i)
+
+literals-within : (n : ℕ) (ps : List Form) → AllWithin n (literals ps ++ IsOther ∷ [])
+literals-within n [] = (omega arith, tt)
+literals-within n (f.Number m ∷ ps) = (omega arith, literals-within n ps)
+literals-within n (f.Character c ∷ ps) = (omega arith, literals-within n ps)
+literals-within n (f.Anything ∷ ps) = literals-within n ps
+literals-within n (f.Variable x ∷ ps) = literals-within n ps
+literals-within n (f.Truth b ∷ ps) = literals-within n ps
+literals-within n (f.Nil ∷ ps) = literals-within n ps
+literals-within n (f.Cons p q ∷ ps) = literals-within n ps
+literals-within n (f.Pair p q ∷ ps) = literals-within n ps
+literals-within n (f.Built x qs ∷ ps) = literals-within n ps
+
+lines-within : (n : ℕ) (d : DataDecl) (ts : List SeqType) (ks : List DataConstructor) → line_parts ks ≤ n → AllWithin n (constructor_heads d ts ks)
+lines-within n d ts [] i = tt
+lines-within n d ts (k ∷ ks) i =
+    let e = length-map (types.filled (types.filling (map (λ x. x.name) d.parameters) ts)) k.parts in
+    (omega (arith, i, e), lines-within n d ts ks (omega (arith, i)))
+
+entry-within : (w : World) (x : Name) (d : DataDecl) → type_named w x ≡ Some (DataType d) → line_parts d.constructors ≤ all_parts w
+entry-within [] x d i = absurd (cc i)
+entry-within (e ∷ w) x d i = go e (same_name x _) i (entry-within w x d)
+  where
+    go : (e : Decl) (b : Bool) → or_else (where_named b (type_entry e)) (type_named w x) ≡ Some (DataType d) → (type_named w x ≡ Some (DataType d) → line_parts d.constructors ≤ all_parts w) → line_parts d.constructors ≤ decl_parts e + all_parts w
+    go (Data k) true j later = let m : k ≡ d = cc j in subst (λ y. line_parts y.constructors ≤ line_parts k.constructors + all_parts w) m (omega arith)
+    go (Protocol k) true j later = absurd (cc j)
+    go (Coprotocol k) true j later = absurd (cc j)
+    go (Function k) true j later = let m = later j in omega (arith, m)
+    go (Process k) true j later = let m = later j in omega (arith, m)
+    go e false j later = let m = later j in omega (arith, m)
+
+data-within : (w : World) (x : Name) (ts : List SeqType) → AllWithin (most_parts w) (data_heads (data_named w x) ts)
+data-within w x ts = go (type_named w x) refl
+  where
+    go : (o : Option TypeEntry) → type_named w x ≡ o → AllWithin (most_parts w) (data_heads (as_data o) ts)
+    go None i = tt
+    go (Some (ProtocolType d)) i = tt
+    go (Some (CoprotocolType d)) i = tt
+    go (Some (DataType d)) i = lines-within (most_parts w) d ts d.constructors (let m = entry-within w x d i in omega (arith, m))
+
+pub named-heads : (w : World) (at : Place) (x : Name) (ts : SeqTypes) (c : List Form) → heads w (Named at x ts) c ≡ data_heads (data_named w x) (types.list_of ts)
+named-heads w at x ts c = go (data_named w x) refl
+  where
+    go : (o : Option DataDecl) → data_named w x ≡ o → heads w (Named at x ts) c ≡ data_heads (data_named w x) (types.list_of ts)
+    go None e = rw e refl
+    go (Some d) e = rw e refl
+
+pub heads-within : (w : World) (t : SeqType) (c : List Form) → AllWithin (most_parts w) (heads w t c)
+heads-within w Int c = literals-within (most_parts w) c
+heads-within w Char c = literals-within (most_parts w) c
+heads-within w s.Bool c = (omega arith, (omega arith, tt))
+heads-within w (s.List t) c = (omega arith, (omega arith, tt))
+heads-within w (s.Pair t u) c = (omega arith, tt)
+heads-within w (s.Variable at x) c = (omega arith, tt)
+heads-within w (Named at x ts) c = subst (AllWithin (most_parts w)) (sym (named-heads w at x ts c)) (data-within w x (types.list_of ts))
+
+-- Measures
+
+-- the depth of what is missing of rows for types
+pub depth : World → List Row → List SeqType → ℕ
+depth w rows ts = (1 + most_parts w) * rows_weight rows + length ts
+
+-- behind a head
+pub depth_behind : World → List Row → List SeqType → Head → ℕ
+depth_behind w rows ts h = depth w (opened_rows h rows) (parts_of h ++ ts)
+
+pub behind-is : (w : World) (rows : List Row) (ts : List SeqType) (h : Head) → depth_behind w rows ts h ≡ depth w (opened_rows h rows) (parts_of h ++ ts)
+unfolding depth_behind
+behind-is w rows ts h = refl
+
+pub deepest : World → List Row → List SeqType → List Head → ℕ
+deepest w rows ts [] = 0
+deepest w rows ts (h ∷ hs) = max (depth_behind w rows ts h) (deepest w rows ts hs)
+
+length-both : {A : Type 0} → (xs ys : List A) → length (xs ++ ys) ≡ length xs + length ys
+length-both [] ys = omega arith
+length-both (x ∷ xs) ys = let i : length (xs ++ ys) ≡ length xs + length ys = length-both xs ys in omega (arith, i)
+
+pub under-open : (w : World) (rows : List Row) (t : SeqType) (ts : List SeqType) → depth_behind w rows ts IsOther < depth w rows (t ∷ ts)
+unfolding depth depth_behind
+under-open w rows t ts =
+    let i = rows-lighter IsOther rows in
+    let j : rows_weight (opened_rows IsOther rows) ≤ rows_weight rows = omega (arith, i) in
+    let k = mul-le-mul_left (1 + most_parts w) j in
+    omega (arith, k)
+
+under-head : (w : World) (rows : List Row) (t : SeqType) (ts : List SeqType) (h : Head) → length (parts_of h) ≤ most_parts w → all_open (column rows) ≡ false → depth_behind w rows ts h < depth w rows (t ∷ ts)
+unfolding depth depth_behind
+under-head w rows t ts h i closed =
+    let j : rows_weight (opened_rows h rows) + one_if_closed false ≤ rows_weight rows = subst (λ c. rows_weight (opened_rows h rows) + one_if_closed c ≤ rows_weight rows) closed (rows-lighter h rows) in
+    let m : suc (rows_weight (opened_rows h rows)) ≤ rows_weight rows = omega (arith, j) in
+    let k = mul-le-mul_left (1 + most_parts w) m in
+    let l = length-both (parts_of h) ts in
+    omega (arith, i, k, l)
+
+pub under-heads : (w : World) (rows : List Row) (t : SeqType) (ts : List SeqType) (hs : List Head) → AllWithin (most_parts w) hs → all_open (column rows) ≡ false → deepest w rows ts hs < depth w rows (t ∷ ts)
+unfolding deepest depth
+under-heads w rows t ts [] i closed = omega arith
+under-heads w rows t ts (h ∷ hs) (i, j) closed =
+    let a = under-head w rows t ts h i closed in
+    let b = under-heads w rows t ts hs j closed in
+    omega (arith, a, b)
+
+pub under-deepest : {A : Type 0} → (see : A → Head) (w : World) (rows : List Row) (ts : List SeqType) (hs : List A) (i : ℕ) (h : A) → i < length hs → h ≡ get_or hs i h → depth_behind w rows ts (see h) ≤ deepest w rows ts (map see hs)
+unfolding deepest
+under-deepest see w rows ts [] i h l e = absurd (omega (arith, l))
+under-deepest see w rows ts (x ∷ hs) zero h l e = let a : depth_behind w rows ts (see h) ≡ depth_behind w rows ts (see x) = ap (λ y. depth_behind w rows ts (see y)) e in omega (arith, a)
+under-deepest see w rows ts (x ∷ hs) (suc i) h l e = let a = under-deepest see w rows ts hs i h (omega (arith, l)) e in omega (arith, a)
+
+-- of what the code holds
+
+pub open-falls : (w : World) (rows : List Row) (first : declared.SeqType) (others all : List declared.SeqType) (t : ℕ) → all ≡ first ∷ others → 3 * depth w rows (map view_seq all) ≡ t → 3 * depth_behind w rows (map view_seq others) IsOther + 1 < t
+open-falls w rows first others all t e m =
+    let a = under-open w rows (view_seq first) (map view_seq others) in
+    let d : depth w rows (map view_seq all) ≡ depth w rows (view_seq first ∷ map view_seq others) = ap (λ ts. depth w rows (map view_seq ts)) e in
+    omega (arith, a, d, m)
+
+pub closed-falls : (w : World) (rows : List Row) (first : declared.SeqType) (others all : List declared.SeqType) (tried : List Head) (t : ℕ) → all ≡ first ∷ others → all_open (column rows) ≡ false → tried ≡ heads w (view_seq first) (column rows) → 3 * depth w rows (map view_seq all) ≡ t → 3 * deepest w rows (map view_seq others) tried + 2 < t
+closed-falls w rows first others all tried t e o h m =
+    let within = subst (AllWithin (most_parts w)) (sym h) (heads-within w (view_seq first) (column rows)) in
+    let a = under-heads w rows (view_seq first) (map view_seq others) tried within o in
+    let d : depth w rows (map view_seq all) ≡ depth w rows (view_seq first ∷ map view_seq others) = ap (λ ts. depth w rows (map view_seq ts)) e in
+    omega (arith, a, d, m)
+
+pub behind-falls : (w : World) (rows kept : List Row) (others all : List SeqType) (h : Head) (t : ℕ) → kept ≡ opened_rows h rows → all ≡ parts_of h ++ others → 3 * depth_behind w rows others h + 1 ≡ t → 3 * depth w kept all < t
+behind-falls w rows kept others all h t k a m =
+    let d : depth w kept all ≡ depth_behind w rows others h = ap (λ r. depth w r all) k ∙ ap (depth w (opened_rows h rows)) a ∙ sym (behind-is w rows others h) in
+    omega (arith, d, m)
+
+pub ruleset measures = (behind-is, under-open, under-heads, under-deepest, heads-within)
