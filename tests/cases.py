@@ -4,8 +4,6 @@
 import os
 import sys
 
-import function_cases
-import functions
 import grammar
 import grammar_cases
 import name_cases
@@ -15,7 +13,6 @@ MOST_BYTES = 1_048_576
 PHASES = {
     "grammar": (grammar_cases.all_cases, grammar.answer),
     "names": (name_cases.all_cases, names.answer),
-    "functions": (function_cases.all_cases, functions.answer),
 }
 
 
@@ -36,7 +33,6 @@ def write(path, content):
 
 def main():
     folder, answers = sys.argv[1], []
-    sys.setrecursionlimit(100_000)
     for phase, (all_cases, answer) in PHASES.items():
         cases = all_cases()
         content = told(cases)

@@ -1,17 +1,13 @@
 //! Reads files of cases, and prints for each case how far its source is accepted, or its first fault.
 //!
-//! The words are pairs of a phase and a file. `grammar FILE` prints `tree` where a source has a tree, `names FILE` prints `well
-//! declared` where its names are so too, and `functions FILE`, whose sources are all well declared, prints `typed` where its functions
-//! are. Each case begins with a line `== NAME` and its source goes to the next such line; the last line feed before that line, or before
-//! the end, belongs to no source. `tests/` makes the files and the answers.
+//! The words are pairs of a phase and a file. `grammar FILE` prints `tree` where a source has a tree, and `names FILE` prints `well
+//! declared` where its names are so too. Each case begins with a line `== NAME` and its source goes to the next such line; the last
+//! line feed before that line, or before the end, belongs to no source. `tests/` makes the files and the answers.
 #![tactic(auto)]
 
 use anyhow::{Context, Result, bail};
-use campl_cli::{SOURCE_LIMIT, judge_names, tree_of};
-use campl_seqcheck::{SeqFault, check_seq};
+use campl_cli::{Refusal, SOURCE_LIMIT, judge_names, tree_of};
 use campl_text::{FileShelf, Text, read_text};
-use campl_tree::{Place, Program};
-use campl_types::{World, declare};
 use std::alloc::Global;
 use std::env;
 use std::io::Write;
@@ -22,15 +18,13 @@ use std::rt::{Env, Files};
 enum Phase {
     Grammar,
     Names,
-    Functions,
 }
 
 fn phase_of(word: &str) -> Result<Phase> {
     match word {
         "grammar" => Ok(Phase::Grammar),
         "names" => Ok(Phase::Names),
-        "functions" => Ok(Phase::Functions),
-        _ => bail!("the phases are grammar, names and functions"),
+        _ => bail!("the phases are grammar and names"),
     }
 }
 
@@ -51,71 +45,15 @@ fn source_of(alloc: Global, case: &str) -> Result<Text> {
     Ok(Text::of(alloc, case)?)
 }
 
-// What is said of a program whose names are well declared, or why they aren't.
-fn judge_program(alloc: Global, program: Program) -> Result<String> {
-    match judge_names(alloc, program) {
-        Ok(()) => Ok("well declared".to_string(alloc)?),
-        Err(refusal) => Ok(format!(in alloc; "{refusal}")?),
-    }
-}
-
-// The world of a program whose names are well declared.
-fn world_of(alloc: Global, program: Program) -> Result<World> {
-    match declare(alloc, program) {
-        Ok(world) => Ok(world),
-        Err(_) => bail!("a source has a fault of names"),
-    }
-}
-
-// A fault of functions, as its line will have it.
-fn words_of(alloc: Global, fault: &SeqFault) -> Result<String> {
-    match fault {
-        SeqFault::TypeDiffers {
-            place,
-            found,
-            wanted,
-        } => at(alloc, "E30 TypeDiffers", *place, format!(in alloc; ": found {found}, wanted {wanted}")?),
-        SeqFault::NeedsType { place } => at(alloc, "E31 NeedsType", *place, String::new(alloc)),
-        SeqFault::NotExhaustive { place, missing } => {
-            at(alloc, "E32 NotExhaustive", *place, format!(in alloc; ": missing {missing}")?)
-        }
-        SeqFault::ArgumentCount {
-            place,
-            found,
-            wanted,
-        } => at(alloc, "E33 ArgumentCount", *place, format!(in alloc; ": found {found}, wanted {wanted}")?),
-        SeqFault::NameTwiceInPattern { place, name } => {
-            at(alloc, "E34 NameTwiceInPattern", *place, format!(in alloc; ": name {name}")?)
-        }
-        SeqFault::OutOfMemory => bail!("memory is short"),
-    }
-}
-
-// A fault at a place.
-fn at(alloc: Global, fault: &str, place: Place, detail: String) -> Result<String> {
-    let Place { line, column } = place;
-    Ok(format!(in alloc; "{fault} at {line}:{column}{detail}")?)
-}
-
-// What is said of a program whose functions are typed, or why they aren't.
-fn judge_functions(alloc: Global, program: Program) -> Result<String> {
-    let world = world_of(alloc, program)?;
-    match check_seq(alloc, &world) {
-        Ok(()) => Ok("typed".to_string(alloc)?),
-        Err(fault) => words_of(alloc, &fault),
-    }
-}
-
-// What is said of a source.
-fn judge(alloc: Global, phase: Phase, source: &Text) -> Result<String> {
-    let program = match tree_of(alloc, source) {
-        Ok(program) => program,
-        Err(refusal) => return Ok(format!(in alloc; "{refusal}")?),
-    };
+// What is said of an accepted source, or why it is refused.
+fn judge(alloc: Global, phase: Phase, source: &Text) -> std::result::Result<&'static str, Refusal> {
+    let program = tree_of(alloc, source)?;
     match phase {
-        Phase::Grammar => Ok("tree".to_string(alloc)?),
-        Phase::Names => judge_program(alloc, program),
-        Phase::Functions => judge_functions(alloc, program),
+        Phase::Grammar => Ok("tree"),
+        Phase::Names => {
+            judge_names(alloc, program)?;
+            Ok("well declared")
+        }
     }
 }
 
@@ -127,8 +65,10 @@ fn print_answers(alloc: Global, phase: Phase, text: &Text, out: &mut impl Write)
         .context("the last line has no end")?;
     for case in content.split("\n== ") {
         let (name, source) = case.split_once('\n').context("a case has no source")?;
-        let said = judge(alloc, phase, &source_of(alloc, source)?)?;
-        writeln!(out, "{name}: {said}")?;
+        match judge(alloc, phase, &source_of(alloc, source)?) {
+            Ok(accepted) => writeln!(out, "{name}: {accepted}")?,
+            Err(refusal) => writeln!(out, "{name}: {refusal}")?,
+        }
     }
     Ok(())
 }
