@@ -36,7 +36,7 @@ abbrev mutual
 abbrev pub type_text : SeqType → Written
 type_text = written (λ (x : Name). x)
 
-abbrev or_unknown : Option SeqType → Written
+abbrev pub or_unknown : Option SeqType → Written
 or_unknown (Some t) = type_text t
 or_unknown None = codes "_"
 

@@ -1,5 +1,5 @@
 //! A text that a refusal shows.
-ghost use Rattle.std.specs.Prelude.{◌≡◌, IfOk, Some, chars, encode_utf8_all};
+ghost use Rattle.std.specs.Prelude.{◌≡◌, ◌++◌, [], ◌∷◌, IfOk, OnOk, Some, chars, encode_utf8_all};
 
 use std::alloc::{AllocError, Global};
 use std::fmt;
@@ -29,6 +29,47 @@ impl Shown {
     {
         let chars = text.chars().collect(alloc)?;
         Ok(Shown { chars })
+    }
+
+    /// A text with no character yet.
+    pub fn new(alloc: Global) -> Shown
+        ensures { result ≡ [] }
+    {
+        Shown {
+            chars: Vec::new(alloc),
+        }
+    }
+
+    /// What these characters show.
+    pub fn from_chars(chars: Vec<char>) -> Shown
+        ensures { result ≡ chars.items }
+    {
+        Shown { chars }
+    }
+
+    /// Puts a character behind the text.
+    pub fn push_char(&mut self, c: char) -> Result<(), AllocError>
+        ensures { OnOk result (self.new ≡ self.old ++ c ∷ []) }
+    {
+        self.chars.push(c)?;
+        Ok(())
+    }
+
+    /// Puts characters behind the text.
+    pub fn push_chars(&mut self, chars: &[char]) -> Result<(), AllocError>
+        ensures { OnOk result (self.new ≡ self.old ++ chars.now) }
+    {
+        self.chars.extend_from_slice(chars)
+    }
+
+    /// Puts another text behind the text.
+    pub fn push_str(&mut self, text: &str) -> Result<(), AllocError>
+        ensures { OnOk result (self.new ≡ self.old ++ chars text.now) }
+    {
+        for c in text.chars() {
+            self.push_char(c)?;
+        }
+        Ok(())
     }
 }
 

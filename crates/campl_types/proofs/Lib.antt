@@ -17,7 +17,7 @@ mod Unlike
 mod UnlikeChan
 pub mod SameType
 mod TwoEnds
-mod Fillings
+pub mod Fillings
 pub mod DeclaredOnce
 pub mod Turned
 pub mod Instances

@@ -1,6 +1,7 @@
 pub mod Names
 pub mod NameSet
 pub mod Substitution
+pub mod Filling
 pub mod SameType
 pub mod SameTest
 pub mod Prelude

@@ -5,7 +5,8 @@
 //! polarity, patterns, expressions, processes. [`declare`] judges the names of a program and gives its
 //! [`World`], which finds what is declared by a name; [`NameFault`] is its refusal. A world also reads off the
 //! channels of `run` (`services`), the polarity table (`allowed`, which answers an [`Act`]), and the type that
-//! remains after a constructor (`after`). [`partners`] says which two ends fit together. A channel of type
+//! remains after a constructor (`after`). [`partners`] says which two ends fit together, and [`same_seq`]
+//! which sequential types are the same; a [`Filling`] is what type parameters stand for. A channel of type
 //! `Put(Int | TopBot)` gives
 //!
 //! ```text
@@ -17,6 +18,7 @@ mod act;
 mod after;
 mod ends;
 mod fault;
+mod filling;
 mod judge;
 mod judge_bodies;
 mod judge_decls;
@@ -37,9 +39,11 @@ mod world;
 pub use act::Act;
 pub use ends::partners;
 pub use fault::NameFault;
+pub use filling::{Filling, parts_at};
 pub use judge::declare;
 pub use laws::{
     law_bodies_name_what_they_hold, law_forks_divide_by_names, law_forks_divide_in_one_way,
 };
 pub use run::RunServices;
+pub use same::same_seq;
 pub use world::{ConstructorRef, LowerRef, TypeRef, World};

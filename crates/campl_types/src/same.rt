@@ -5,10 +5,10 @@ ghost use Rattle.campl_types.specs.SameTest as test;
 
 use campl_tree::{ChanType, SeqType};
 
-/// Whether two sequential types are the same.
+/// Whether two sequential types are the same, wherever their names stand. Takes no memory.
 #[cycle(same)]
 #[tactic(auto, using(crate::proofs::Trees::seq_views))]
-pub(crate) fn same_seq(t: &SeqType, u: &SeqType) -> bool
+pub fn same_seq(t: &SeqType, u: &SeqType) -> bool
     ensures { result ≡ test.same_seq (view_seq t.now) (view_seq u.now) }
 {
     match (t, u) {
