@@ -163,7 +163,13 @@ fn of_nested(alloc: Global, world: &World) -> Result<String, AllocError> {
 }
 
 fn of_numbers(alloc: Global, world: &World) -> Result<String, AllocError> {
-    of_column(alloc, world, Form::Number(1), Form::Number(-2), SeqType::Int)
+    of_column(
+        alloc,
+        world,
+        Form::Number(1),
+        Form::Number(-2),
+        SeqType::Int,
+    )
 }
 
 // True, _ and _, True
@@ -171,7 +177,12 @@ fn of_two_columns(alloc: Global, world: &World) -> Result<String, AllocError> {
     let upper = two(alloc, Form::Truth(true), Form::Anything)?;
     let lower = two(alloc, Form::Anything, Form::Truth(true))?;
     let rows = two(alloc, upper, lower)?;
-    shown(alloc, world, &rows, &two(alloc, SeqType::Bool, SeqType::Bool)?)
+    shown(
+        alloc,
+        world,
+        &rows,
+        &two(alloc, SeqType::Bool, SeqType::Bool)?,
+    )
 }
 
 #[test]
