@@ -7,3 +7,4 @@ pub mod Depths
 pub mod Openings
 pub mod Missed
 pub mod Written
+mod Examples

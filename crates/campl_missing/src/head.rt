@@ -10,7 +10,7 @@ ghost use Rattle.campl_missing.specs.Heads.{constructor_heads, data_heads};
 
 use crate::form::Form;
 use campl_tree::{DataConstructor, DataDecl, Name, SeqType};
-use campl_types::{TypeRef, World};
+use campl_types::{TypeRef, World, parts_at};
 use sqlite_items::{Boxed, Items};
 use std::alloc::{AllocError, Global};
 
@@ -203,16 +203,4 @@ fn pair_of<T: Drop>(alloc: Global, first: T, second: T) -> Result<Items<T>, Allo
     items.push(first)?;
     items.push(second)?;
     Ok(items)
-}
-
-// a stub until campl_types has it
-fn parts_at(
-    alloc: Global,
-    d: &DataDecl,
-    arguments: &[SeqType],
-    k: &DataConstructor,
-) -> Result<Items<SeqType>, AllocError>
-    ensures { IfOk result (λ ts. map view_seq ts ≡ values.parts_at (view_data d.now) (map view_seq arguments.now) (view_data_constructor k.now)) }
-{
-    Err(AllocError)
 }

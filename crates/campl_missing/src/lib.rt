@@ -5,8 +5,8 @@
 //! `campl_types/specs/Missing`, that no row covers. Of the rows `Red` and `Blue` it is `Green`, where Green
 //! is declared between them.
 //!
-//! In reading order: `form` and `pattern`, `head` with what a value may begin with, `opened` with the rows
-//! that fit it, `missing`, `text`.
+//! In reading order: `form` and `pattern`; `head`, what a value may begin with; `opened`, the rows that fit a
+//! head, and a head put back; `search`, the trials; `text`.
 #![tactic(auto)]
 
 mod form;

@@ -12,6 +12,10 @@ use std::alloc::{AllocError, Global};
 
 /// The form of a pattern: what it asks of a value. A text asks for the list of its characters, and `-n` for
 /// the opposite of the number n.
+///
+/// # Errors
+///
+/// `AllocError` where memory wants.
 #[cycle(form)]
 #[tactic(auto, using(crate::proofs::Seen::seen))]
 pub fn form_of(alloc: Global, p: &Pattern) -> Result<Form, AllocError>

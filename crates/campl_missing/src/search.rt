@@ -14,8 +14,14 @@ use campl_types::World;
 use sqlite_items::Items;
 use std::alloc::{AllocError, Global};
 
-/// The first forms for values of these types, in the fixed order of trials, that no row covers; `None`
-/// where the rows cover every value. Each row has a form for each type.
+/// The missing pattern of rows: the first forms for these types, in the fixed order of trials, that no row
+/// covers. It is `None` where nothing is missing, and then the rows cover all values of the types, if each row
+/// has a form for each type. Heads are tried inside heads no deeper than there are forms in the rows besides
+/// variables and `_`.
+///
+/// # Errors
+///
+/// `AllocError` where memory wants.
 #[cycle(missing)]
 pub fn missing(
     alloc: Global,

@@ -12,6 +12,10 @@ use campl_tree::Name;
 use std::alloc::{AllocError, Global};
 
 /// Forms as they are written, with commas between them: what `missing` answers, as it stands in a refusal.
+///
+/// # Errors
+///
+/// `AllocError` where memory wants.
 pub fn forms_text(alloc: Global, forms: &[Form]) -> Result<Shown, AllocError>
     ensures { IfOk result (λ s. s ≡ texts.forms_text (view_forms forms.now)) }
 {
