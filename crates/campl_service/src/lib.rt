@@ -1,11 +1,13 @@
 //! Services, which stand at the far ends of `run`'s channels, and the scripts that they send.
 //!
-//! A service takes constructors and texts and sends the lines of its script, one action at a time
-//! (`service`), and writes each text, each line and its end down in a transcript (`transcript`), whose
-//! lines are printed with escapes (`shown`). A script is a list of lines (`script`, `line`).
+//! A service takes constructors and texts and sends the lines of its script, one action at a time (`service`, `phase`). It
+//! writes each text, each line and its end down in a transcript, whose lines are printed with escapes (`transcript`, `record`,
+//! `shown`). What it has still to send is a list of lines (`script`, `line`). Scripts of both versions are read out of a text
+//! (`reading`) line by line (`entry`), with their escapes (`escapes`, `characters`), limits (`limits`) and faults (`fault`).
+//! What holds of every action stands in `laws`.
 //!
 //! ```text
-//! let mut scripts = Scripts::none(alloc, 1)?;
+//! let mut scripts = read_script(alloc, &text, &names)?; // or Scripts::none(alloc, 1)?
 //! let mut console = Service::new(alloc, ServiceKind::Console, scripts.take(0));
 //! console.act(Some(Message::Pick(0)))?; // ConsolePut
 //! console.act(Some(Message::Word(hello)))?;
