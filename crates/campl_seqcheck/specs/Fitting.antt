@@ -1,14 +1,14 @@
 -- Patterns judged against types, from left to right: the variables that they bind, or their first fault. A
 -- pattern whose type differs is at fault before its parts are; so is a constructor with another number
 -- of parts than its declaration has, and that is judged first.
-use Rattle.std.specs.Prelude.{ℕ, suc, List, [], ◌∷◌, ◌++◌, Option, Some, None, if◌then◌else◌, codes, length, map}
+use Rattle.std.specs.Prelude.{ℕ, suc, List, [], ◌∷◌, ◌++◌, Option, Some, None, if◌then◌else◌, codes, length}
 use Rattle.campl_tree.specs.declared.place.Place.{Place}
 use Rattle.campl_tree.specs.Plain.SeqType.{SeqType, Int, Char, Bool, Named}
 use Rattle.campl_tree.specs.Plain.SeqType as s
 use Rattle.campl_tree.specs.Plain.Pattern.{Pattern, Patterns, Wildcard, Variable, Number, Negative, Character, Text, True, False, Constructor, Pair, Cons, no_patterns, pattern_then}
 use Rattle.campl_tree.specs.Plain.Pattern as p
 use Rattle.campl_tree.specs.Plain.Decl.{DataDecl}
-use Rattle.campl_types.specs.Names.{Name, same_name, is_among}
+use Rattle.campl_types.specs.Names.{same_name, is_among}
 use Rattle.campl_types.specs.Substitution as types
 use Rattle.campl_types.specs.SameTest.{same_seq}
 use Rattle.campl_types.specs.Sequential.{whole}
@@ -16,11 +16,9 @@ use Rattle.campl_types.specs.Values.{parts_at}
 use Rattle.campl_types.specs.Fits.{Vars}
 use Rattle.campl_types.specs.World.{World, ConstructorEntry, OfData, OfProtocol, OfCoprotocol, constructor_named}
 use Rattle.campl_shown.specs.Types.{type_text, type_text_at}
+use Rattle.campl_vars.specs.Variables.{variable_names}
 use Rattle.campl_seqcheck.specs.declared.fault.SeqFault.TheVariants.{TypeDiffers, NeedsType, NameTwiceInPattern}
 use Rattle.campl_seqcheck.specs.Judged.{Judged, Is, Fails, and_then, counted}
-
-abbrev pub variable_names : Vars → List Name
-variable_names = map (λ (v : Name × SeqType). v.0)
 
 abbrev pub number_of : Patterns → ℕ
 number_of no_patterns = 0
