@@ -13,7 +13,7 @@ use Rattle.campl_types.specs.Fits.{Vars}
 use Rattle.campl_types.specs.World.{World, variables_of_list, type_parameters, names_of}
 use Rattle.campl_types.specs.Sequential.{Way, Found, Checked, HasType, PartsHaveTypes, whole}
 use Rattle.campl_seqcheck.specs.Judged.{Judged, Is, Fails, Fine, and_then, counted}
-use Rattle.campl_seqcheck.specs.Matching.{bound_names, is_known, matched}
+use Rattle.campl_matching.specs.Matching.{bound_names, is_known, matched}
 use Rattle.campl_seqcheck.specs.Judging.{Wanted, meets, begun, all_bound, called, judge, judge_parts}
 use Rattle.campl_seqcheck.proofs.AgreesJudged.{in-turn, counts}
 use Rattle.campl_seqcheck.proofs.AgreesSame.{Meets, meets-is}

@@ -20,7 +20,7 @@ use Rattle.campl_shown.specs.Types.{type_text, type_text_at}
 use Rattle.campl_missing.specs.Texts.{forms_text}
 use Rattle.campl_seqcheck.specs.declared.fault.SeqFault.TheVariants.{TypeDiffers, NeedsType, NotExhaustive}
 use Rattle.campl_seqcheck.specs.Judged.{Judged, Is, Fails, Fine, fine, and_then, counted}
-use Rattle.campl_seqcheck.specs.Matching.{bound_names, is_known, matched}
+use Rattle.campl_matching.specs.Matching.{bound_names, is_known, matched}
 use Rattle.campl_seqcheck.specs.Fitting.{item_type, pair_types, fit}
 
 -- the type that is wanted, if one is

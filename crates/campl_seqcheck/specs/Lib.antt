@@ -1,5 +1,4 @@
 pub mod Judged
-pub mod Matching
 pub mod Fitting
 pub mod Judging
 pub mod Functions

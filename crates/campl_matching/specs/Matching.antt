@@ -1,6 +1,6 @@
 -- The type parameters of a function or constructor are bound by matching its declared types against types
 -- that are known.
-use Rattle.std.specs.Prelude.{List, [], ◌∷◌, ◌++◌, Option, Some, None, if◌then◌else◌}
+use Rattle.std.specs.Prelude.{◌≡◌, true, false, List, [], ◌∷◌, ◌++◌, Option, Some, None, if◌then◌else◌}
 use Rattle.campl_tree.specs.Plain.SeqType.{SeqType, SeqTypes, Int, Char, Bool, Pair, Named, Variable, no_types, type_then}
 use Rattle.campl_tree.specs.Plain.SeqType as s
 use Rattle.campl_types.specs.Names.{Name, same_name, found, all_among}
@@ -17,7 +17,7 @@ abbrev pub is_known : Filling → SeqType → Truth
 is_known fill t = all_among (variables_of t) (bound_names fill)
 
 -- a parameter that stands for nothing yet stands for the type from now on
-abbrev bind : Filling → Name → Option SeqType → SeqType → Option Filling
+abbrev pub bind : Filling → Name → Option SeqType → SeqType → Option Filling
 bind fill x None t = Some (fill ++ (x, t) ∷ [])
 bind fill x (Some u) t = if same_seq u t then Some fill else None
 
@@ -41,3 +41,8 @@ abbrev mutual
   all_matched fill no_types no_types = Some fill
   all_matched fill (type_then d ds) (type_then t ts) = then_match (matched fill d t) (λ f. all_matched f ds ts)
   all_matched fill _ _ = None
+
+-- what code that matches answers: whether the types match, and what the parameters stand for if they do
+abbrev pub Matches : Truth → Option Filling → Filling → Type 0
+Matches true match fill = match ≡ Some fill
+Matches false match fill = match ≡ None
