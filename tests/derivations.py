@@ -13,6 +13,7 @@ import sys
 
 import trees as t
 from antt_trees import bare, binder, body, chan_type, expr, ident, idents, patterns, place, plain_list, seq_type
+from names import PRELUDE
 from trees import tree_of
 from typing_linear import process_term
 from typing_sequential import World, function_term
@@ -155,17 +156,6 @@ def world_of(declarations):
             case _:
                 world.protocols[node.name.name] = node
     return world
-
-
-PRELUDE = """coprotocol S => Console where
-    ConsolePut :: S => Get([Char] | S)
-    ConsoleGet :: S => Put([Char] | S)
-    ConsoleClose :: S => TopBot
-protocol StringTerminal => S where
-    StringTerminalGet :: Get([Char] | S) => S
-    StringTerminalPut :: Put([Char] | S) => S
-    StringTerminalClose :: TopBot => S
-"""
 
 
 def judged(declarations, kind):

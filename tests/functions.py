@@ -10,12 +10,11 @@ users; a fault ends the judging. Types are tuples without places: ("Int",), ("li
 ("data", name, arguments), ("variable", name).
 """
 
-import os
 import sys
 
 import trees as t
-from grammar import HELLO, cases_of, text_of
-from names import answer as answer_of_names, changed, worked
+from grammar import HELLO, run
+from names import answer as answer_of_names, worked
 from trees import tree_of
 
 INT, CHAR, BOOL = ("Int",), ("Char",), ("Bool",)
@@ -482,23 +481,6 @@ def rows_worked_by_hand():
     ]
 
 
-def check_rows():
-    rows = rows_worked_by_hand()
-    for text, wanted in rows:
-        assert answer(text) == wanted, (text, answer(text), wanted)
-    print("%d rows" % len(rows))
-
-
-def main(words):
-    sys.setrecursionlimit(1_000_000)
-    if words[:1] == ["--check"]:
-        check_rows()
-    elif words[:1] == ["--answers"]:
-        for name, text in cases_of(text_of(words[1])):
-            print("%s: %s" % (name, answer(text)))
-    else:
-        print(answer(text_of(words[0]).removeprefix("\ufeff")))
-
-
 if __name__ == "__main__":
-    main(sys.argv[1:])
+    sys.setrecursionlimit(1_000_000)
+    run(sys.argv[1:], rows_worked_by_hand, answer)

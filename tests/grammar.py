@@ -252,9 +252,9 @@ def hello_with(expression):
     return HELLO.replace('"Hello"', expression)
 
 
-def check():
+def rows_worked_by_hand():
     lines = HELLO.splitlines(keepends=True)
-    rows = [
+    return [
         (HELLO, "tree"),
         (HELLO[: HELLO.index('"Hello"')] + '"Hel', "E02 OpenString at 4:13"),
         (lines[0] + lines[1], "E07 BadColumn at 3:1"),
@@ -269,9 +269,6 @@ def check():
         ("", "tree"),
         ("(", "E10 Unexpected at 1:1"),
     ]
-    for text, wanted in rows:
-        assert answer(text) == wanted, (text[:200], answer(text), wanted)
-    print("%d rows" % len(rows))
 
 
 def cases_of(content):
@@ -291,15 +288,23 @@ def text_of(path):
         return file.read()
 
 
-def main(words):
+def check_rows(rows, answer):
+    """Judges rows of a source and the answer that is meant."""
+    for text, wanted in rows:
+        assert answer(text) == wanted, (text[:200], answer(text), wanted)
+    print("%d rows" % len(rows))
+
+
+def run(words, rows, answer):
+    """What a reference does with its words; `rows` makes the rows worked by hand."""
     if words[:1] == ["--check"]:
-        check()
+        check_rows(rows(), answer)
     elif words[:1] == ["--answers"]:
-        for name_of_case, text in cases_of(text_of(words[1])):
-            print("%s: %s" % (name_of_case, answer(text)))
+        for name, text in cases_of(text_of(words[1])):
+            print("%s: %s" % (name, answer(text)))
     else:
         print(answer(text_of(words[0]).removeprefix("\ufeff")))
 
 
 if __name__ == "__main__":
-    main(sys.argv[1:])
+    run(sys.argv[1:], rows_worked_by_hand, answer)

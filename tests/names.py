@@ -15,7 +15,7 @@ import sys
 from collections import namedtuple
 
 import trees
-from grammar import HELLO, answer as answer_of_grammar, cases_of, text_of
+from grammar import HELLO, answer as answer_of_grammar, run, text_of
 from trees import Coprotocol, Data, Function, Process, Protocol, tree_of
 
 HERE = os.path.dirname(os.path.abspath(__file__))
@@ -340,22 +340,5 @@ def rows_worked_by_hand():
     ]
 
 
-def check():
-    rows = rows_worked_by_hand()
-    for text, wanted in rows:
-        assert answer(text) == wanted, (text, answer(text), wanted)
-    print("%d rows" % len(rows))
-
-
-def main(words):
-    if words[:1] == ["--check"]:
-        check()
-    elif words[:1] == ["--answers"]:
-        for name, text in cases_of(text_of(words[1])):
-            print("%s: %s" % (name, answer(text)))
-    else:
-        print(answer(text_of(words[0]).removeprefix("\ufeff")))
-
-
 if __name__ == "__main__":
-    main(sys.argv[1:])
+    run(sys.argv[1:], rows_worked_by_hand, answer)
