@@ -60,17 +60,13 @@ impl Line {
     }
 }
 
-// A list is made from its end. As long as a line may be, it is never too deep.
+// As long as a line may be, its text is never too deep.
 fn text_value(alloc: Global, characters: &[char]) -> Result<Value, AllocError>
     requires { length characters.now ≤ TEXT_MAX }
     ensures { IfOk result (λ value. value ≡ text_of characters.now) }
 {
-    let mut list = Value::nil();
-    for c in characters.iter().rev() {
-        match Value::cell(alloc, Value::character(*c), list)? {
-            Made::Is(longer) => list = longer,
-            Made::TooDeep => unreachable!(),
-        }
+    match Value::text_of(alloc, characters)? {
+        Made::Is(text) => Ok(text),
+        Made::TooDeep => unreachable!(),
     }
-    Ok(list)
 }

@@ -1,7 +1,8 @@
 pub mod Tree
+pub mod List
+pub mod Depth
 pub mod View
 pub mod Falls
 pub mod Made
-pub mod List
 pub mod Text
 pub mod Compare

@@ -24,6 +24,6 @@ Looks t (L.Int n) = t ≡ Int n
 Looks t (L.Char c) = t ≡ Char c
 Looks t (L.Truth b) = t ≡ Truth b
 Looks t (L.Nil) = t ≡ Nil
-Looks t (L.Cell head tail) = t ≡ Cell head.now tail.now
+Looks t (L.Cell head tail) = t ≡ Cell head tail
 Looks t (L.Pair first second) = t ≡ Pair first.now second.now
 Looks t (L.Built constructor parts) = t ≡ built constructor parts.now

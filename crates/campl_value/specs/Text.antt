@@ -1,9 +1,12 @@
 -- Texts as lists of characters.
-use Rattle.std.specs.Prelude.{◌≡◌, refl, ℕ, List, [], ◌∷◌, Option, Some, None, option_map}
+use Rattle.std.specs.Prelude.{◌≡◌, refl, ℕ, ◌<◌, List, [], ◌∷◌, length, Option, Some, None, option_map}
 use Rattle.std.proofs.Common.{ap}
 use Rattle.campl_value.specs.declared.text.Front.{Front}
 use Rattle.campl_value.specs.declared.text.Front.TheVariants as F
+use Rattle.campl_value.specs.declared.text.Row.{Row}
+use Rattle.campl_value.specs.declared.text.Row.TheVariants as R
 use Rattle.campl_value.specs.Tree.{Tree, Char, Nil, Cell}
+use Rattle.campl_value.specs.List.{letters}
 
 -- the list of these characters
 abbrev pub text_of : List ℕ → Tree
@@ -30,5 +33,17 @@ Begins _ = ⊥
 -- what a text begins with
 abbrev pub IsFront : Tree → Front → Type 0
 IsFront t (F.End) = t ≡ Nil
-IsFront t (F.Letter c rest) = t ≡ Cell (Char c) rest.now
+IsFront t (F.Letter c rest) = t ≡ Cell (Char c) rest
 IsFront t (F.NoText) = ¬ (Begins t)
+
+-- a text is its characters in front of the empty list
+pub letters_of_text : (cs : List ℕ) → letters cs Nil ≡ text_of cs
+letters_of_text [] = refl
+letters_of_text (c ∷ cs) = ap (Cell (Char c)) (letters_of_text cs)
+
+-- what a text begins with, letters in a row or one
+abbrev pub IsRow : Tree → Row → Type 0
+IsRow t (R.End) = t ≡ Nil
+IsRow t (R.Letter c rest) = t ≡ Cell (Char c) rest
+IsRow t (R.Letters cs rest) = (t ≡ letters cs.now rest) × (0 < length cs.now)
+IsRow t (R.NoText) = ¬ (Begins t)

@@ -31,10 +31,10 @@ impl Value {
 fn compare_texts(left: &Value, right: &Value) -> Option<Ordering>
     ensures { result ≡ texts_compared left.now right.now }
 {
-    let mut left = left;
-    let mut right = right;
+    let mut left = left.part();
+    let mut right = right.part();
     loop {
-        match (front_of(left), front_of(right)) {
+        match (front_of(&left), front_of(&right)) {
             (Front::End, Front::End) => return Some(Ordering::Equal),
             (Front::End, Front::Letter(..)) => return Some(Ordering::Less),
             (Front::Letter(..), Front::End) => return Some(Ordering::Greater),

@@ -1,7 +1,9 @@
 //! Values that programs compute with: integers, characters, truths, lists, pairs and constructors.
 //!
 //! A value shares its parts, so that a copy costs the same for every value, and it carries its
-//! depth, which is at most [`MAX_DEPTH`]. Contracts see a value as a plain tree (`specs/Tree.antt`);
+//! depth, which is at most [`MAX_DEPTH`]. Letters of a text may stand in one shared row, with a value behind
+//! them; a [`Part`] is what `look` lends, which may be a letter or the rest of a row.
+//! Contracts see a value as a plain tree (`specs/Tree.antt`), whichever way it stands in memory;
 //! what would be deeper is answered by [`Made::TooDeep`] and never built. Beside values and their parts
 //! (`value`) there are lists (`list`), texts (`text`), the order of values (`compare`) and messages (`message`).
 //!
@@ -21,7 +23,7 @@ mod text;
 pub mod value;
 
 pub use message::Message;
-pub use value::{Look, MAX_DEPTH, Made, Value};
+pub use value::{Look, MAX_DEPTH, Made, Part, Value};
 
 #[cfg(test)]
 mod tests;

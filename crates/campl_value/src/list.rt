@@ -8,15 +8,25 @@ use std::alloc::{AllocError, Global};
 
 impl Value {
     /// The items of this list and behind them `right`, or `None` exactly where this is no list.
-    /// `right` isn't looked at. Time and memory are linear in the cells of this list. An error means
-    /// that memory is out.
+    /// `right` isn't looked at, and is shared. Time and memory are linear in the cells of this list, and a text's letters stand
+    /// in one row afterwards. An error means that memory is out.
     pub fn append(&self, alloc: Global, right: &Value) -> Result<Option<Made>, AllocError>
         ensures { IfOk result (λ made. IsMadeIfAny (appended self.now right.now) made) }
     {
-        match copied_items(alloc, self)? {
-            Some(items) => Ok(Some(put_in_front(alloc, items, right)?)),
-            None => Ok(None),
+        match self.characters(alloc)? {
+            Some(characters) => Ok(Some(Value::letters(alloc, characters, right.copy()?)?)),
+            None => append_items(alloc, self, right),
         }
+    }
+}
+
+// A list of any items with `right` behind them.
+fn append_items(alloc: Global, left: &Value, right: &Value) -> Result<Option<Made>, AllocError>
+    ensures { IfOk result (λ made. IsMadeIfAny (appended left.now right.now) made) }
+{
+    match copied_items(alloc, left)? {
+        Some(items) => Ok(Some(put_in_front(alloc, items, right)?)),
+        None => Ok(None),
     }
 }
 
@@ -24,7 +34,7 @@ fn copied_items(alloc: Global, list: &Value) -> Result<Option<Vec<Value>>, Alloc
     ensures { IfOk result (λ found. option_map (λ items. items.items) found ≡ items_of list.now) }
 {
     let mut items = Vec::new(alloc);
-    let mut rest = list;
+    let mut rest = list.part();
     loop {
         match rest.look() {
             Look::Nil => return Ok(Some(items)),

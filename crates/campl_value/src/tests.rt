@@ -1,4 +1,4 @@
-use crate::{MAX_DEPTH, Made, Message, Value};
+use crate::{Look, MAX_DEPTH, Made, Message, Part, Value};
 use std::alloc::{AllocError, Global};
 use std::cmp::Ordering;
 use std::process::Abort;
@@ -26,6 +26,16 @@ fn list(rt: &impl Abort, alloc: Global, cells: u32) -> Result<Value, AllocError>
         list = is(rt, Value::cell(alloc, Value::nil(), list)?);
     }
     Ok(list)
+}
+
+// The longest text, each of whose letters stands in a row of its own.
+fn rows_of_one_letter(rt: &impl Abort, alloc: Global) -> Result<Value, AllocError> {
+    let letter = text(rt, alloc, "x")?;
+    let mut text = Value::nil();
+    for _ in 1..MAX_DEPTH {
+        text = is(rt, letter.append(alloc, &text)?.expect(rt, "a list"));
+    }
+    Ok(text)
 }
 
 fn one_part(alloc: Global, part: Value) -> Result<Made, AllocError> {
@@ -86,6 +96,14 @@ fn texts_reach_the_limit(rt: HostRuntime) -> Result<(), Fail> {
         s.push('é')?;
     }
     assert_eq!(rt; text(&rt, alloc, &s)?.depth(), 4096);
+    let longest = text(&rt, alloc, &s)?;
+    assert!(rt;
+        is_too_deep(
+            &longest
+                .append(alloc, &text(&rt, alloc, "e")?)?
+                .expect(&rt, "a list")
+        )
+    );
     s.push('e')?;
     assert!(rt; is_too_deep(&Value::text(alloc, &s)?));
     Ok(())
@@ -113,6 +131,54 @@ fn texts_are_appended_in_order(rt: HostRuntime) -> Result<(), Fail> {
     assert_eq!(rt; spelled(&rt, alloc, &both)?.as_str(), "aβc");
     assert!(rt; Value::int(1).append(alloc, &both)?.is_none());
     assert!(rt; list(&rt, alloc, 1)?.characters(alloc)?.is_none());
+    Ok(())
+}
+
+// The first letter of a text, and what is behind it.
+fn parted<'a>(rt: &impl Abort, text: &Part<'a>) -> (char, Part<'a>) {
+    let Look::Cell(head, tail) = text.look() else {
+        panic!(rt; "no cell");
+    };
+    let Look::Char(c) = head.look() else {
+        panic!(rt; "no letter");
+    };
+    (c, tail)
+}
+
+#[test]
+fn texts_are_taken_apart(rt: HostRuntime) -> Result<(), Fail> {
+    let alloc = rt.alloc();
+    let whole = is(&rt, Value::text_of(alloc, ['a', 'β', 'c'].as_slice())?);
+    let (first, tail) = parted(&rt, &whole.part());
+    assert_eq!(rt; first, 'a');
+    assert_eq!(rt; tail.depth(), 3);
+    let rest = tail.copy()?;
+    drop(whole);
+    assert_eq!(rt; spelled(&rt, alloc, &rest)?.as_str(), "βc");
+    let (second, tail) = parted(&rt, &rest.part());
+    assert_eq!(rt; second, 'β');
+    let (third, tail) = parted(&rt, &tail);
+    assert_eq!(rt; third, 'c');
+    assert!(rt; matches!(tail.look(), Look::Nil));
+    Ok(())
+}
+
+// A text of one row and the same text of cells, and a cell in front of a row.
+#[test]
+fn rows_and_cells_are_the_same(rt: HostRuntime) -> Result<(), Fail> {
+    let alloc = rt.alloc();
+    let b = is(
+        &rt,
+        Value::cell(alloc, Value::character('b'), Value::nil())?,
+    );
+    let cells = is(&rt, Value::cell(alloc, Value::character('a'), b)?);
+    let row = text(&rt, alloc, "ab")?;
+    assert_eq!(rt; row.compare(&cells), Some(Ordering::Equal));
+    assert_eq!(rt; row.depth(), cells.depth());
+    let longer = is(&rt, Value::cell(alloc, Value::character('x'), row)?);
+    assert_eq!(rt; spelled(&rt, alloc, &longer)?.as_str(), "xab");
+    let both = longer.append(alloc, &cells)?.expect(&rt, "a list");
+    assert_eq!(rt; spelled(&rt, alloc, &is(&rt, both))?.as_str(), "xabab");
     Ok(())
 }
 
@@ -157,12 +223,15 @@ fn doubled_pairs_share_their_halves(rt: HostRuntime) -> Result<(), Fail> {
     Ok(())
 }
 
-// A list and a tree of one constructor, as deep as values go, are dropped.
+// A list, a text of rows of one letter each and a tree of one constructor, as deep as values go, are dropped.
 #[test]
 fn the_deepest_values_are_dropped(rt: HostRuntime) -> Result<(), Fail> {
     let alloc = rt.alloc();
     let deepest = list(&rt, alloc, MAX_DEPTH - 1)?;
     drop(deepest);
+    let rows = rows_of_one_letter(&rt, alloc)?;
+    assert_eq!(rt; rows.depth(), MAX_DEPTH);
+    drop(rows);
     let mut tree = Value::nil();
     for _ in 1..MAX_DEPTH {
         tree = is(&rt, one_part(alloc, tree)?);

@@ -2,9 +2,9 @@
 ghost use Rattle.std.specs.Prelude.{◌≡◌, IfOk, option_map};
 ghost use Rattle.std.specs.Str.{chars};
 ghost use Rattle.campl_value.specs.Made.{IsMade};
-ghost use Rattle.campl_value.specs.Text.{text_of, chars_of, IsFront};
+ghost use Rattle.campl_value.specs.Text.{text_of, chars_of, IsFront, IsRow};
 
-use crate::value::{Look, MAX_DEPTH, Made, Value};
+use crate::value::{Look, MAX_DEPTH, Made, Part, Value};
 use std::alloc::{AllocError, Global};
 
 impl Value {
@@ -14,7 +14,18 @@ impl Value {
         ensures { IfOk result (λ made. IsMade (text_of (chars s.now)) made) }
     {
         let characters = collect(alloc, s)?;
-        list_of_characters(alloc, characters.as_slice())
+        Value::letters(alloc, characters, Value::nil())
+    }
+
+    /// The list of these characters, of depth one more than their number. An error means that memory is out.
+    pub fn text_of(alloc: Global, characters: &[char]) -> Result<Made, AllocError>
+        ensures { IfOk result (λ made. IsMade (text_of characters.now) made) }
+    {
+        if characters.len() >= MAX_DEPTH as usize {
+            return Ok(Made::TooDeep);
+        }
+        let characters = Vec::from_slice(alloc, characters)?;
+        Value::letters(alloc, characters, Value::nil())
     }
 
     /// The characters of a text, or `None` exactly where this is no list of characters. An error means
@@ -23,15 +34,19 @@ impl Value {
         ensures { IfOk result (λ found. option_map (λ read. read.items) found ≡ chars_of self.now) }
     {
         let mut read = Vec::new(alloc);
-        let mut rest = self;
+        let mut rest = self.part();
         loop {
-            match front_of(rest) {
-                Front::End => return Ok(Some(read)),
-                Front::Letter(c, behind) => {
+            match row_of(&rest) {
+                Row::End => return Ok(Some(read)),
+                Row::Letter(c, behind) => {
                     read.push(c)?;
                     rest = behind;
                 }
-                Front::NoText => return Ok(None),
+                Row::Letters(letters, behind) => {
+                    read.extend_from_slice(letters)?;
+                    rest = behind;
+                }
+                Row::NoText => return Ok(None),
             }
         }
     }
@@ -42,12 +57,12 @@ impl Value {
 pub enum Front<'a> {
     End,
     // A character, and the text behind it.
-    Letter(char, &'a Value),
+    Letter(char, Part<'a>),
     NoText,
 }
 
 // What `text` begins with.
-pub fn front_of(text: &Value) -> Front<'_>
+pub fn front_of<'a>(text: &Part<'a>) -> Front<'a>
     ensures { IsFront text.now result }
 {
     match text.look() {
@@ -60,25 +75,32 @@ pub fn front_of(text: &Value) -> Front<'_>
     }
 }
 
+// What a text begins with, as many letters at once as stand in a row.
+#[derive(Drop)]
+enum Row<'a> {
+    End,
+    Letter(char, Part<'a>),
+    // Letters, and the text behind them.
+    Letters(&'a [char], Part<'a>),
+    NoText,
+}
+
+// What `text` begins with.
+fn row_of<'a>(text: &Part<'a>) -> Row<'a>
+    ensures { IsRow text.now result }
+{
+    if let Some((letters, behind)) = text.row() {
+        return Row::Letters(letters, behind.part());
+    }
+    match front_of(text) {
+        Front::End => Row::End,
+        Front::Letter(c, behind) => Row::Letter(c, behind),
+        Front::NoText => Row::NoText,
+    }
+}
+
 fn collect(alloc: Global, s: &str) -> Result<Vec<char>, AllocError>
     ensures { IfOk result (λ read. read.items ≡ chars s.now) }
 {
     s.chars().collect(alloc)
-}
-
-// Refuses before it builds, since the depth is known from the number of characters.
-fn list_of_characters(alloc: Global, characters: &[char]) -> Result<Made, AllocError>
-    ensures { IfOk result (λ made. IsMade (text_of characters.now) made) }
-{
-    if characters.len() >= MAX_DEPTH as usize {
-        return Ok(Made::TooDeep);
-    }
-    let mut list = Value::nil();
-    for c in characters.iter().rev() {
-        match Value::cell(alloc, Value::character(*c), list)? {
-            Made::Is(longer) => list = longer,
-            Made::TooDeep => return Ok(Made::TooDeep),
-        }
-    }
-    Ok(Made::Is(list))
 }

@@ -1,7 +1,9 @@
 // A value: a tree with its depth, whose parts are shared.
-ghost use Rattle.std.specs.Prelude.{◌≡◌, ◌+◌, ◌<◌, ◌≤◌, IfOk, SomeIff};
+ghost use Rattle.std.specs.Prelude.{◌≡◌, ◌+◌, ◌<◌, ◌≤◌, IfOk, IfSome, SomeIff, length};
 ghost use Rattle.campl_value.specs.Tree.{Tree, Int, Char, Truth, Nil, Cell, Pair, built, depth_of, trees_of, deepest_of};
+ghost use Rattle.campl_value.specs.List.{letters};
 ghost use Rattle.campl_value.specs.Made.{IsMade, Looks};
+ghost use Rattle.campl_value.specs.View.{letters_from, HasLetterAt, IsRest};
 
 use std::alloc::{AllocError, Global};
 use std::marker::Model;
@@ -27,8 +29,18 @@ enum Node {
     Truth(bool),
     Nil,
     Cell(Arc<(Value, Value), Global>),
+    // A cell for each character of the letters from this place on, of which there is one at least.
+    Text(u32, Arc<Letters, Global>),
     Pair(Arc<(Value, Value), Global>),
     Built(u32, Arc<Vec<Value>, Global>),
+}
+
+// Characters in a row, and what is behind the last.
+#[cycle(value)]
+#[derive(Drop)]
+struct Letters {
+    characters: Vec<char>,
+    behind: Value,
 }
 
 impl Model for Value {
@@ -40,17 +52,17 @@ impl Model for Value {
 
     ghost coded = { tree_code };
 
-    ghost use Rattle.campl_value.specs.View.{tree_of};
+    ghost use Rattle.campl_value.specs.View.{tree_of, HasLetter};
 
     ghost view = { λ a. tree_of a.node };
 
-    ghost invariant = { λ a. (a.depth ≡ depth_of (tree_of a.node)) × (a.depth ≤ MAX_DEPTH) };
+    ghost invariant = { λ a. (a.depth ≡ depth_of (tree_of a.node)) × (a.depth ≤ MAX_DEPTH) × HasLetter a.node };
 
     ghost size = { depth_of };
 
     ghost use Rattle.campl_value.specs.Falls.{depth_falls};
 
-    ghost size_decreases = { λ a h. depth_falls a.node };
+    ghost size_decreases = { λ a h. depth_falls a.node h.2 };
 }
 
 /// What making a value gives: the value, or that it would be deeper than [`MAX_DEPTH`].
@@ -68,10 +80,93 @@ pub enum Look<'a> {
     Truth(bool),
     Nil,
     /// A list's head and tail.
-    Cell(&'a Value, &'a Value),
+    Cell(Part<'a>, Part<'a>),
     Pair(&'a Value, &'a Value),
     /// A constructor's number and its parts, in order.
     Built(u32, &'a [Value]),
+}
+
+/// A value inside another, as contracts see it: a tree. It is lent, or it is a character or the rest of a text, which no
+/// value of its own stands for.
+#[derive(Drop)]
+pub struct Part<'a> {
+    place: Place<'a>,
+}
+
+#[derive(Drop)]
+enum Place<'a> {
+    Lent(&'a Value),
+    Letter(char),
+    // What has this depth, from this letter on.
+    Rest(u32, u32, &'a Arc<Letters, Global>),
+}
+
+impl<'a> Model for Part<'a> {
+    ghost use Rattle.campl_value.specs.Tree.{Tree, tree_code};
+
+    ghost Value = { Tree };
+
+    ghost coded = { tree_code };
+
+    ghost use Rattle.campl_value.specs.View.{tree_at, IsPlace};
+
+    ghost view = { λ a. tree_at a.place };
+
+    ghost invariant = { λ a. IsPlace a.place };
+}
+
+impl<'a> Part<'a> {
+    /// How many levels the part has, as `Value::depth` says.
+    pub fn depth(&self) -> u32
+        ensures same { result ≡ depth_of self.now }
+        ensures at_most { result ≤ MAX_DEPTH }
+    {
+        match &self.place {
+            Place::Lent(value) => value.depth(),
+            Place::Letter(_) => 1,
+            Place::Rest(depth, _, _) => *depth,
+        }
+    }
+
+    /// The top of the part.
+    pub fn look(&self) -> Look<'a>
+        ensures { Looks self.now result }
+    {
+        match &self.place {
+            Place::Lent(value) => value.look(),
+            Place::Letter(c) => Look::Char(*c),
+            Place::Rest(depth, from, text) => look_at(*depth, *from, text),
+        }
+    }
+
+    // The letters that stand in one row at the front of a text, and what is behind them, where they do. `None` says
+    // nothing: `look` tells what is there.
+    pub(crate) fn row(&self) -> Option<(&'a [char], &'a Value)>
+        ensures { IfSome result (λ row. (self.now ≡ letters row.0.now row.1.now) × (0 < length row.0.now)) }
+    {
+        match &self.place {
+            Place::Lent(value) => value.row(),
+            Place::Letter(_) => None,
+            Place::Rest(_, from, text) => Some(row_at(*from, text)),
+        }
+    }
+
+    /// An equal value, which shares its parts with this one. An error means that memory is out.
+    pub fn copy(&self) -> Result<Value, AllocError>
+        ensures { IfOk result (λ copy. copy ≡ self.now) }
+    {
+        match &self.place {
+            Place::Lent(value) => value.copy(),
+            Place::Letter(c) => Ok(Value::character(*c)),
+            Place::Rest(depth, from, text) => {
+                let text = Arc::try_clone(text)?;
+                Ok(Value {
+                    depth: *depth,
+                    node: Node::Text(*from, text),
+                })
+            }
+        }
+    }
 }
 
 // What takes no memory.
@@ -124,6 +219,15 @@ impl Value {
         self.depth
     }
 
+    /// The whole value as a part.
+    pub fn part(&self) -> Part<'_>
+        ensures { result ≡ self.now }
+    {
+        Part {
+            place: Place::Lent(self),
+        }
+    }
+
     /// The top of the value.
     pub fn look(&self) -> Look<'_>
         ensures { Looks self.now result }
@@ -133,9 +237,22 @@ impl Value {
             Node::Char(c) => Look::Char(*c),
             Node::Truth(b) => Look::Truth(*b),
             Node::Nil => Look::Nil,
-            Node::Cell(parts) => Look::Cell(&parts.0, &parts.1),
+            Node::Cell(parts) => Look::Cell(parts.0.part(), parts.1.part()),
+            Node::Text(from, text) => look_at(self.depth, *from, text),
             Node::Pair(parts) => Look::Pair(&parts.0, &parts.1),
             Node::Built(constructor, parts) => Look::Built(*constructor, parts.as_slice()),
+        }
+    }
+}
+
+impl Value {
+    // The letters of a text in a row, as `Part::row` gives them.
+    fn row(&self) -> Option<(&[char], &Value)>
+        ensures { IfSome result (λ row. (self.now ≡ letters row.0.now row.1.now) × (0 < length row.0.now)) }
+    {
+        match &self.node {
+            Node::Text(from, text) => Some(row_at(*from, text)),
+            _ => None,
         }
     }
 }
@@ -143,6 +260,7 @@ impl Value {
 // What may want memory.
 impl Value {
     /// An equal value, which shares its parts with this one. An error means that memory is out.
+    #[inline]
     pub fn copy(&self) -> Result<Value, AllocError>
         ensures { IfOk result (λ copy. copy ≡ self.now) }
     {
@@ -152,6 +270,7 @@ impl Value {
             Node::Truth(b) => Node::Truth(*b),
             Node::Nil => Node::Nil,
             Node::Cell(parts) => Node::Cell(Arc::try_clone(parts)?),
+            Node::Text(from, text) => Node::Text(*from, Arc::try_clone(text)?),
             Node::Pair(parts) => Node::Pair(Arc::try_clone(parts)?),
             Node::Built(constructor, parts) => Node::Built(*constructor, Arc::try_clone(parts)?),
         };
@@ -172,6 +291,24 @@ impl Value {
         Ok(Made::Is(Value {
             depth,
             node: Node::Cell(parts),
+        }))
+    }
+
+    /// These characters in front of `behind`, a cell for each, in one row. An error means that memory is out, and drops both.
+    #[tactic(auto, using(crate::specs::Depth::depth_of_letters))]
+    pub fn letters(alloc: Global, characters: Vec<char>, behind: Value) -> Result<Made, AllocError>
+        ensures { IfOk result (λ made. IsMade (letters characters.items behind) made) }
+    {
+        if characters.is_empty() {
+            return Ok(Made::Is(behind));
+        }
+        let Some(depth) = depth_in_front(characters.len(), behind.depth()) else {
+            return Ok(Made::TooDeep);
+        };
+        let text = Arc::new(alloc, Letters { characters, behind })?;
+        Ok(Made::Is(Value {
+            depth,
+            node: Node::Text(0, text),
         }))
     }
 
@@ -214,6 +351,47 @@ fn depth_above(below: u32) -> Option<u32>
     } else {
         None
     }
+}
+
+// The depth of a value with so many characters in front, unless that is too deep.
+fn depth_in_front(characters: usize, behind: u32) -> Option<u32>
+    requires { behind ≤ MAX_DEPTH }
+    ensures { SomeIff result (characters + behind ≤ MAX_DEPTH) (characters + behind) }
+{
+    if characters <= (MAX_DEPTH - behind) as usize {
+        Some(characters as u32 + behind)
+    } else {
+        None
+    }
+}
+
+// The first letter from this place on, and what is behind it. The whole has this depth.
+#[tactic(auto, using(crate::specs::Depth::depth_of_letters, crate::specs::Depth::depth_pos, std::proofs::lemmas::List::drop_more))]
+fn look_at(depth: u32, from: u32, text: &Arc<Letters, Global>) -> Look<'_>
+    requires { IsRest depth from text.now.value }
+    ensures { Looks (letters_from from text.now.value) result }
+{
+    let first = Part {
+        place: Place::Letter(text.characters[from as usize]),
+    };
+    let next = from + 1;
+    let behind = if (next as usize) < text.characters.len() {
+        Part {
+            place: Place::Rest(depth - 1, next, text),
+        }
+    } else {
+        text.behind.part()
+    };
+    Look::Cell(first, behind)
+}
+
+// The letters from this place on, and what is behind them.
+fn row_at(from: u32, text: &Arc<Letters, Global>) -> (&[char], &Value)
+    requires { HasLetterAt from text.now.value }
+    ensures same { letters_from from text.now.value ≡ letters result.0.now result.1.now }
+    ensures some { 0 < length result.0.now }
+{
+    (&text.characters.as_slice()[from as usize..], &text.behind)
 }
 
 // The depth of the deepest of these, and 0 where there is none.
