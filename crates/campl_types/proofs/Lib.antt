@@ -25,7 +25,6 @@ pub mod Missing
 pub mod MissingUnfolds
 mod FreeCommands
 mod FreeParts
-pub mod OfferedRows
 pub mod FreeNames
 pub mod Forked
 mod Examples
