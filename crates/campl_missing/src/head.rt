@@ -10,7 +10,7 @@ ghost use Rattle.campl_missing.specs.Heads.{constructor_heads, data_heads};
 
 use crate::form::Form;
 use campl_tree::{DataConstructor, DataDecl, Name, SeqType};
-use campl_types::{TypeRef, World, parts_at};
+use campl_names::{TypeRef, World, parts_at};
 use sqlite_items::{Boxed, Items};
 use std::alloc::{AllocError, Global};
 

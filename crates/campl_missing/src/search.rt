@@ -10,7 +10,7 @@ use crate::form::{Form, anythings, in_front};
 use crate::head::{Head, heads};
 use crate::opened::{all_open, opened_rows, put_back};
 use campl_tree::SeqType;
-use campl_types::World;
+use campl_names::World;
 use sqlite_items::Items;
 use std::alloc::{AllocError, Global};
 

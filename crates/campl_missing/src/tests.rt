@@ -5,7 +5,7 @@ use campl_tree::{
     Body, ChanType, DataConstructor, DataDecl, Decl, Ident, Last, Name, Place, ProcessDecl,
     ProcessRow, Program, SeqType,
 };
-use campl_types::{World, declare};
+use campl_names::{World, declare};
 use sqlite_items::{Boxed, Items};
 use std::alloc::{AllocError, Global};
 use std::test::Fail;

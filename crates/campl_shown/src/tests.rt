@@ -2,7 +2,7 @@
 
 use crate::{Shown, chan_text, type_text, type_text_at};
 use campl_tree::{ChanType, Name, Place, SeqType};
-use campl_types::Filling;
+use campl_names::Filling;
 use sqlite_items::{Boxed, Items};
 use std::alloc::{AllocError, Global};
 use std::test::Fail;
