@@ -1,4 +1,7 @@
+pub mod Truth
 pub mod Names
+pub mod Among
+pub mod Listed
 pub mod SameType
 pub mod DeclaredOnce
 pub mod Turned
