@@ -286,12 +286,16 @@ module _ (w : World) (once : twice_among [] (declared_from 0 w) ≡ []) where
       let q = own (owner c) (j ∙ n) in
       none-in k c (lines_in d) none (subst (λ z. IsIn (k, c) (lines_in z)) (sym o ∙ q) r.2)
 
-  -- a constructor's declaration is known by its type's name
+  -- a constructor's declaration is declared
+  pub declared-of : (x : Name) (c : ConstructorEntry) → constructor_named w x ≡ Some c → IsIn (owner c) w
+  declared-of x c i =
+      let (d, there, e) = in-line w (x, c) (found-in x c (lines_of w) (sym (named-found w x) ∙ i)) in
+      subst (λ z. IsIn z w) (sym (owner-is d x c e)) there
+
+  -- and is known by its type's name
   pub owner-named : (x : Name) (c : ConstructorEntry) (t : TypeEntry) → constructor_named w x ≡ Some c → type_entry (owner c) ≡ Some t
       → type_named w (declared_ident (owner c)).name ≡ Some t
-  owner-named x c t i j =
-      let (d, there, e) = in-line w (x, c) (found-in x c (lines_of w) (sym (named-found w x) ∙ i)) in
-      declared-type (owner c) t (subst (λ z. IsIn z w) (sym (owner-is d x c e)) there) j
+  owner-named x c t i j = declared-type (owner c) t (declared-of x c i) j
 
   -- and has the constructor among its lines
   pub among-lines : (x : Name) (c : ConstructorEntry) → constructor_named w x ≡ Some c → IsIn (x, c) (lines_in (owner c))
