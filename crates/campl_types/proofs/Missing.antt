@@ -1,4 +1,4 @@
--- Where nothing is missing, each list of values of the types matches a row.
+-- Where nothing is missing, each list of values of the types matches a row, and the first that it matches is known.
 use Rattle.std.proofs.Common.{◌≡◌, refl, sym, ap, subst, ◌∙◌, ℕ, zero, suc, Bool, true, false, ◌&&◌, ◌||◌, ◌⊎◌, inl, inr, List, [], ◌∷◌, ◌++◌, Option, Some, None, is_some, if◌then◌else◌, eqb, eqb-true, eq-eqb, map, length, slice_get, option_map, true≢false}
 use Rattle.campl_tree.specs.declared.place.Place.{Place}
 use Rattle.campl_tree.specs.Plain.SeqType.{SeqType, SeqTypes, Named, Variable}
@@ -7,6 +7,7 @@ use Rattle.campl_tree.specs.Plain.Decl.{DataDecl, DataConstructor}
 use Rattle.campl_value.specs.Tree.{Tree, Trees, Truth, Nil, Cell, Pair, Built, none, more, list_of}
 use Rattle.campl_types.specs.Names.{Name, same_name}
 use Rattle.campl_types.proofs.Names.{same-is}
+use Rattle.campl_types.proofs.Truth.{and-first, and-second, or-first, or-second, or-split}
 use Rattle.campl_types.specs.Substitution as types
 use Rattle.campl_types.specs.Forms as f
 use Rattle.campl_types.specs.Forms.{Form, Forms, anythings}
@@ -48,25 +49,6 @@ hits-parts w (f.more p ps) none = refl
 
 and-intro : {a b : Bool} → a ≡ true → b ≡ true → (a && b) ≡ true
 and-intro i j = rw i j
-
-and-first : (a b : Bool) → (a && b) ≡ true → a ≡ true
-and-first true b i = refl
-and-first false b i = i
-
-and-second : (a b : Bool) → (a && b) ≡ true → b ≡ true
-and-second true b i = i
-and-second false b i = absurd (true≢false (sym i))
-
-or-split : (a b : Bool) → (a || b) ≡ true → (a ≡ true) ⊎ (b ≡ true)
-or-split true b i = inl refl
-or-split false b i = inr i
-
-or-first : (a b : Bool) → a ≡ true → (a || b) ≡ true
-or-first a b i = rw i refl
-
-or-second : (a b : Bool) → b ≡ true → (a || b) ≡ true
-or-second true b i = refl
-or-second false b i = i
 
 truth-same : (b : Bool) → same_truth b b ≡ true
 truth-same true = refl
@@ -337,18 +319,23 @@ within : (n : ℕ) (w : World) → ConstructorsAreKnown w → Deeper w (missing_
 within zero w known = by-columns w known (λ rows ts. Some (anythings (length ts))) (λ rows ts vs i. absurd (cc i))
 within (suc n) w known = by-columns w known (missing_within n w) (within n w known)
 
-some-next : (o : Option (ℕ × Bindings)) → is_some o ≡ true → is_some (next_row o) ≡ true
-some-next None i = i
-some-next (Some r) i = refl
+-- the first row that matches, at its place, and what it binds
+abbrev pub Chosen : World → List Row → List Tree → Type 0
+Chosen w rows vs =
+    (r : ℕ × Bindings) × (first_match w rows vs ≡ Some r) × (row : Row) × (slice_get rows r.0 ≡ Some row) × (row_matched w row vs ≡ Some r.1)
 
-first-matched : (w : World) (rows : List Row) (vs : List Tree) → covers w rows vs ≡ true → is_some (first_match w rows vs) ≡ true
-first-matched w [] vs i = i
-first-matched w (r ∷ rows) vs i = go (row_matched w r vs) (subst (λ b. (b || covers w rows vs) ≡ true) (sym (hits-row w r vs)) i) (first-matched w rows vs)
+next-chosen : (w : World) (row : Row) (rows : List Row) (vs : List Tree) → row_matched w row vs ≡ None → Chosen w rows vs → Chosen w (row ∷ rows) vs
+next-chosen w row rows vs e (r, a, q, b, c) = ((suc r.0, r.1), rw (e, a) refl, q, b, c)
+
+chosen : (w : World) (rows : List Row) (vs : List Tree) → covers w rows vs ≡ true → Chosen w rows vs
+chosen w [] vs i = absurd (true≢false (sym i))
+chosen w (r ∷ rows) vs i = go (row_matched w r vs) refl (subst (λ b. (b || covers w rows vs) ≡ true) (sym (hits-row w r vs)) i) (chosen w rows vs)
   where
-    go : (o : Option Bindings) → (is_some o || covers w rows vs) ≡ true → (covers w rows vs ≡ true → is_some (first_match w rows vs) ≡ true) → is_some (or_next o (first_match w rows vs)) ≡ true
-    go (Some xs) j later = refl
-    go None j later = some-next (first_match w rows vs) (later j)
+    go : (o : Option Bindings) → row_matched w r vs ≡ o → (is_some (row_matched w r vs) || covers w rows vs) ≡ true → (covers w rows vs ≡ true → Chosen w rows vs) → Chosen w (r ∷ rows) vs
+    go (Some xs) e j later = ((0, xs), rw e refl, r, refl, e)
+    go None e j later = next-chosen w r rows vs e (later (rw e at j))
 
--- where nothing is missing of rows of patterns for some types, each list of values of the types matches a row
-pub nothing-missing : (w : World) → ConstructorsAreKnown w → (rows : List Row) (ts : List SeqType) (vs : List Tree) → AllAsLong rows ts → missing w rows ts ≡ None → AllAreValues w vs ts → is_some (first_match w rows vs) ≡ true
-nothing-missing w known rows ts vs long i typed = first-matched w rows vs (within _ w known rows ts vs i long typed)
+-- where nothing is missing of rows of patterns for some types, of each list of values of the types there is
+-- a first row that matches
+pub nothing-missing : (w : World) → ConstructorsAreKnown w → (rows : List Row) (ts : List SeqType) (vs : List Tree) → AllAsLong rows ts → missing w rows ts ≡ None → AllAreValues w vs ts → Chosen w rows vs
+nothing-missing w known rows ts vs long i typed = chosen w rows vs (within _ w known rows ts vs i long typed)
