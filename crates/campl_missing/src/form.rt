@@ -9,7 +9,6 @@ use sqlite_items::{Boxed, Items};
 use std::alloc::{AllocError, Global};
 
 /// What a pattern asks of a value.
-#[derive(Drop)]
 pub enum Form {
     /// `_`
     Anything,
@@ -26,6 +25,24 @@ pub enum Form {
     Pair(Boxed<Form>, Boxed<Form>),
     /// A constructor with its parts.
     Built(Name, Items<Form>),
+}
+
+impl Drop for Form {
+    fn drop(self) {
+        match self {
+            Form::Anything | Form::Truth(_) | Form::Nil => {}
+            Form::Variable(x) => drop(x),
+            Form::Number(_) | Form::Character(_) => {}
+            Form::Cons(p, q) | Form::Pair(p, q) => {
+                drop(p);
+                drop(q);
+            }
+            Form::Built(x, ps) => {
+                drop(x);
+                drop(ps);
+            }
+        }
+    }
 }
 
 impl Form {

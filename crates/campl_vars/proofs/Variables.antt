@@ -103,6 +103,6 @@ below (x ∷ xs) ys =
     let e : suc (length (xs ++ ys)) - length ys ≡ suc (length (xs ++ ys) - length ys) = let l : length (xs ++ ys) ≡ length xs + length ys = length-append xs ys in omega (arith, l) in
     rw e (below xs ys)
 
-pub ruleset appending = (taken-more, append_assoc)
+pub ruleset appending = (taken-more, append_assoc, below)
 
 pub ruleset truncating = (one-less, none-less, fewer)
