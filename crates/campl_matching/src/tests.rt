@@ -1,7 +1,7 @@
 //! A parameter that is bound, with ample memory.
 use crate::matching::{is_known, matched};
-use campl_tree::{Name, Place, SeqType};
 use campl_names::Filling;
+use campl_tree::{Name, Place, SeqType};
 use sqlite_items::Boxed;
 use std::alloc::{AllocError, Global};
 use std::test::Fail;

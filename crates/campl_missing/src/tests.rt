@@ -1,11 +1,11 @@
 //! Worked cases, with ample memory.
 
 use crate::{Form, forms_text, missing};
+use campl_names::{World, declare};
 use campl_tree::{
     Body, ChanType, DataConstructor, DataDecl, Decl, Ident, Last, Name, Place, ProcessDecl,
     ProcessRow, Program, SeqType,
 };
-use campl_names::{World, declare};
 use sqlite_items::{Boxed, Items};
 use std::alloc::{AllocError, Global};
 use std::test::Fail;

@@ -1,8 +1,8 @@
 //! Worked types, with ample memory.
 
 use crate::{Shown, chan_text, type_text, type_text_at};
-use campl_tree::{ChanType, Name, Place, SeqType};
 use campl_names::Filling;
+use campl_tree::{ChanType, Name, Place, SeqType};
 use sqlite_items::{Boxed, Items};
 use std::alloc::{AllocError, Global};
 use std::test::Fail;
