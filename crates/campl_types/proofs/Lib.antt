@@ -12,6 +12,7 @@ pub mod EachOnce
 pub mod Turned
 pub mod Instances
 pub mod Missing
+pub mod TypedRows
 pub mod MissingUnfolds
 mod FreeCommands
 pub mod FreeParts

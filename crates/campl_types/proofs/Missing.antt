@@ -13,8 +13,8 @@ use Rattle.campl_types.specs.Forms as f
 use Rattle.campl_types.specs.Forms.{Form, Forms, anythings}
 use Rattle.campl_types.specs.Values.{IsValue, AreValues, AllAreValues, ConstructorsAreKnown, parts_at}
 use Rattle.campl_types.specs.World.{World, OfData, constructor_named, data_named}
-use Rattle.campl_types.specs.Matching.{Bindings, both, matched, all_matched, row_matched, first_match, or_next, next_row, number_of, is_number, same_truth}
-use Rattle.campl_types.specs.Missing.{Row, Head, IsNumber, IsCharacter, IsTruth, IsNil, IsCons, IsPair, IsBuilt, IsOther, parts_of, heads, opened, opened_rows, and_then, put_back, all_open, column, or_try, first_missing, missing_by, missing_within, missing, literals}
+use Rattle.campl_types.specs.Matching.{Bindings, both, matched, all_matched, row_matched, first_match, or_next, next_row, number_of, is_number, same_truth, SomeRowMatches}
+use Rattle.campl_types.specs.Missing.{Row, AsLong, AllAsLong, Head, IsNumber, IsCharacter, IsTruth, IsNil, IsCons, IsPair, IsBuilt, IsOther, parts_of, heads, opened, opened_rows, and_then, put_back, all_open, column, or_try, first_missing, missing_by, missing_within, missing, literals}
 
 -- Whether rows match, as truth values
 
@@ -60,16 +60,6 @@ truth-moves false false c i j = j
 truth-moves false true c i j = absurd (true≢false (sym i))
 
 -- Rows as long as the types
-
-abbrev pub AsLong : Row → List SeqType → Type 0
-AsLong [] [] = Unit {0}
-AsLong (p ∷ ps) (t ∷ ts) = AsLong ps ts
-AsLong [] (t ∷ ts) = ⊥
-AsLong (p ∷ ps) [] = ⊥
-
-abbrev pub AllAsLong : List Row → List SeqType → Type 0
-AllAsLong [] ts = Unit {0}
-AllAsLong (r ∷ rows) ts = AsLong r ts × AllAsLong rows ts
 
 long-append : (qs ps : Row) (us ts : List SeqType) → AsLong qs us → AsLong ps ts → AsLong (qs ++ ps) (us ++ ts)
 long-append [] ps [] ts i j = j
@@ -319,23 +309,18 @@ within : (n : ℕ) (w : World) → ConstructorsAreKnown w → Deeper w (missing_
 within zero w known = by-columns w known (λ rows ts. Some (anythings (length ts))) (λ rows ts vs i. absurd (cc i))
 within (suc n) w known = by-columns w known (missing_within n w) (within n w known)
 
--- the first row that matches, at its place, and what it binds
-abbrev pub Chosen : World → List Row → List Tree → Type 0
-Chosen w rows vs =
-    (r : ℕ × Bindings) × (first_match w rows vs ≡ Some r) × (row : Row) × (slice_get rows r.0 ≡ Some row) × (row_matched w row vs ≡ Some r.1)
-
-next-chosen : (w : World) (row : Row) (rows : List Row) (vs : List Tree) → row_matched w row vs ≡ None → Chosen w rows vs → Chosen w (row ∷ rows) vs
+next-chosen : (w : World) (row : Row) (rows : List Row) (vs : List Tree) → row_matched w row vs ≡ None → SomeRowMatches w rows vs → SomeRowMatches w (row ∷ rows) vs
 next-chosen w row rows vs e (r, a, q, b, c) = ((suc r.0, r.1), rw (e, a) refl, q, b, c)
 
-chosen : (w : World) (rows : List Row) (vs : List Tree) → covers w rows vs ≡ true → Chosen w rows vs
+chosen : (w : World) (rows : List Row) (vs : List Tree) → covers w rows vs ≡ true → SomeRowMatches w rows vs
 chosen w [] vs i = absurd (true≢false (sym i))
 chosen w (r ∷ rows) vs i = go (row_matched w r vs) refl (subst (λ b. (b || covers w rows vs) ≡ true) (sym (hits-row w r vs)) i) (chosen w rows vs)
   where
-    go : (o : Option Bindings) → row_matched w r vs ≡ o → (is_some (row_matched w r vs) || covers w rows vs) ≡ true → (covers w rows vs ≡ true → Chosen w rows vs) → Chosen w (r ∷ rows) vs
+    go : (o : Option Bindings) → row_matched w r vs ≡ o → (is_some (row_matched w r vs) || covers w rows vs) ≡ true → (covers w rows vs ≡ true → SomeRowMatches w rows vs) → SomeRowMatches w (r ∷ rows) vs
     go (Some xs) e j later = ((0, xs), rw e refl, r, refl, e)
     go None e j later = next-chosen w r rows vs e (later (rw e at j))
 
 -- where nothing is missing of rows of patterns for some types, of each list of values of the types there is
 -- a first row that matches
-pub nothing-missing : (w : World) → ConstructorsAreKnown w → (rows : List Row) (ts : List SeqType) (vs : List Tree) → AllAsLong rows ts → missing w rows ts ≡ None → AllAreValues w vs ts → Chosen w rows vs
+pub nothing-missing : (w : World) → ConstructorsAreKnown w → (rows : List Row) (ts : List SeqType) (vs : List Tree) → AllAsLong rows ts → missing w rows ts ≡ None → AllAreValues w vs ts → SomeRowMatches w rows vs
 nothing-missing w known rows ts vs long i typed = chosen w rows vs (within _ w known rows ts vs i long typed)
