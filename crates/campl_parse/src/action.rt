@@ -7,12 +7,12 @@ ghost use Rattle.campl_grammar.specs.Rules.{read};
 ghost use Rattle.campl_grammar.specs.Names.{actions as actions_name, action as action_name, put as put_name, get as get_name, hput as hput_name, split as split_name, close as close_name};
 ghost use Rattle.campl_parse_terms.specs.Reads.{Reads};
 
-use campl_parse_terms::read;
 use campl_grammar::Kind;
-use campl_parse_terms::expr::expr;
 use campl_parse_terms::cursor::Cursor;
 use campl_parse_terms::error::ParseError;
+use campl_parse_terms::expr::expr;
 use campl_parse_terms::names::var;
+use campl_parse_terms::read;
 use campl_tree::Action;
 use sqlite_items::Items;
 use std::alloc::Global;

@@ -11,13 +11,13 @@ ghost use Rattle.campl_parse_terms.specs.declared.error.ParseError.TheVariants.{
 use crate::action::actions;
 use crate::named::named;
 use crate::plug::links;
-use campl_parse_terms::{made, read};
 use campl_grammar::Kind;
-use campl_parse_terms::expr::expr;
 use campl_parse_terms::cursor::Cursor;
 use campl_parse_terms::error::ParseError;
+use campl_parse_terms::expr::expr;
 use campl_parse_terms::names::names;
 use campl_parse_terms::pattern::pattern;
+use campl_parse_terms::{made, read};
 use campl_tree::{Body, Branch, CaseRow, HcaseRow, Ident, Last, Part, Place};
 use sqlite_items::{Boxed, Items};
 use std::alloc::Global;

@@ -5,12 +5,12 @@ ghost use Rattle.campl_grammar.specs.Rules.{read};
 ghost use Rattle.campl_grammar.specs.Names.{named as named_name, identity as identity_name, process_call as process_call_name};
 ghost use Rattle.campl_parse_terms.specs.Reads.{Reads};
 
-use campl_parse_terms::{made, read};
 use campl_grammar::Kind;
-use campl_parse_terms::expr::some_exprs;
 use campl_parse_terms::cursor::Cursor;
 use campl_parse_terms::error::ParseError;
+use campl_parse_terms::expr::some_exprs;
 use campl_parse_terms::names::names;
+use campl_parse_terms::{made, read};
 use campl_tree::Last;
 use campl_words::Word;
 use std::alloc::Global;

@@ -5,11 +5,11 @@ ghost use Rattle.campl_grammar.specs.Rules.{read};
 ghost use Rattle.campl_grammar.specs.Names.{links as links_name, link as link_name};
 ghost use Rattle.campl_parse_terms.specs.Reads.{Reads};
 
-use campl_parse_terms::{made, read};
 use campl_grammar::Kind;
 use campl_parse_terms::cursor::Cursor;
 use campl_parse_terms::error::ParseError;
 use campl_parse_terms::types::ctype;
+use campl_parse_terms::{made, read};
 use campl_tree::Link;
 use sqlite_items::Items;
 use std::alloc::Global;
