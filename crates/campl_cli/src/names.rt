@@ -6,8 +6,8 @@ ghost use Rattle.campl_cli.specs.Source.{refusal_of_naming, IsRefusedForNames};
 
 use crate::fault::{Detail, FaultKind, SourceFault};
 use crate::refusal::Refusal;
-use campl_tree::{Name, Place, Program};
 use campl_names::declare;
+use campl_tree::{Name, Place, Program};
 use campl_types::NameFault;
 use std::alloc::Global;
 

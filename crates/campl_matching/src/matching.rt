@@ -8,8 +8,8 @@ ghost use Rattle.campl_matching.specs.Matching.{bound_names, is_known, bind, mat
 ghost use Rattle.campl_names.specs.Filling.{view_filling};
 
 use crate::parts::{item_of, named_parts, parts_of};
-use campl_tree::{Name, SeqType};
 use campl_names::{Filling, same_seq};
+use campl_tree::{Name, SeqType};
 use std::alloc::{AllocError, Global};
 
 /// Whether each parameter of a type stands for something.

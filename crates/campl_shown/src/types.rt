@@ -6,8 +6,8 @@ ghost use Rattle.campl_shown.specs.Types.{written, arguments, type_text, type_te
 
 use crate::shown::Shown;
 use crate::variables::{Names, Types, Variables};
-use campl_tree::SeqType;
 use campl_names::Filling;
+use campl_tree::SeqType;
 use std::alloc::{AllocError, Global};
 
 /// A type as it is written, with one space behind a comma, and variables by their names.

@@ -6,8 +6,8 @@ ghost use Rattle.campl_types.specs.Names.{found};
 
 use crate::shown::Shown;
 use crate::types::push_type;
-use campl_tree::Name;
 use campl_names::Filling;
+use campl_tree::Name;
 use std::alloc::AllocError;
 
 /// A way to write variables.
