@@ -1,5 +1,5 @@
 -- Declared types matched against types.
-use Rattle.std.proofs.Common.{◌≡◌, ◌≢◌, ◌∙◌, refl, sym, ap, ℕ, suc, Bool, true, false, ◌&&◌, ◌||◌, List, [], ◌∷◌, ◌++◌, map, length, take, Option, Some, None, is_some, if◌then◌else◌, option_map}
+use Rattle.std.proofs.Common.{◌≡◌, ◌≢◌, refl, ap, suc, Bool, true, false, ◌&&◌, ◌||◌, List, [], ◌∷◌, ◌++◌, map, length, take, Option, Some, None, is_some, if◌then◌else◌}
 use Rattle.std.proofs.lemmas.List.{drop_more, drop_all}
 use Rattle.campl_tree.specs.declared.place.Place.{Place}
 use Rattle.campl_tree.specs.declared.types.SeqType as declared
@@ -8,9 +8,9 @@ use Rattle.campl_tree.specs.Plain.SeqType as s
 use Rattle.campl_tree.specs.View.{view_seq, seq_types}
 use Rattle.campl_types.specs.Names.{Name, same_name, found, is_among, all_among}
 use Rattle.campl_types.specs.SameTest.{same_seq}
-use Rattle.campl_types.specs.Substitution.{Filling, variables_of, variables_of_all}
+use Rattle.campl_types.specs.Substitution.{Filling}
 use Rattle.campl_tree.proofs.Views.{seq_views}
-use Rattle.campl_matching.specs.Matching.{bound_names, is_known, matched, all_matched, bind, then_match, Matches}
+use Rattle.campl_matching.specs.Matching.{bound_names, matched, all_matched, bind, then_match, Matches}
 use Rattle.campl_matching.specs.Parts.{item_of, parts_of, named_parts}
 use Rattle.campl_names.specs.Filling.{view_filling}
 use Rattle.campl_names.proofs.Fillings.{found-view, view-behind}

@@ -92,7 +92,7 @@ pub record PartsFound (f : Filling) (types : List SeqType) (g : Filling) (Parts 
   pub extends : Extends f (variables_of_list types) g
   pub typed : (h : Filling) (known : List Name) → SameNames known (bound_names f) → FillAlike h g types → Parts h known
 
-pub no-parts : (f g : Filling) (Parts : Filling → List Name → Type 0) → ((h : Filling) (known : List Name) → Parts h known) → Is f ≡ Is g → PartsFound f [] g Parts
+pub no-parts : (f g : Filling) (Parts : Filling → List Name → Type 0) → ((h : Filling) (known : List Name) → Parts h known) → ◌≡◌ {A = Judged SeqFault Filling} (Is f) (Is g) → PartsFound f [] g Parts
 no-parts f g Parts all i =
     let k : f ≡ g = cc i in
     subst (λ h. PartsFound f [] h Parts) k (record { extends = extends-itself f [] (λ x j. absurd (true≢false (sym j))); typed = λ h known j m. all h known })
