@@ -1,5 +1,5 @@
 -- Names among names.
-use Rattle.std.proofs.Common.{◌≡◌, ◌∙◌, ◌⊎◌, inl, inr, refl, sym, ap, subst, Bool, true, false, not, ◌&&◌, ◌||◌, List, [], ◌∷◌, ◌++◌, true≢false}
+use Rattle.std.proofs.Common.{◌≡◌, ◌∙◌, ◌⊎◌, inl, inr, refl, sym, subst, Bool, true, false, not, ◌||◌, List, [], ◌∷◌, ◌++◌, true≢false}
 use Rattle.campl_types.specs.Names.{Name, same_name, is_among, all_among, are_distinct, without, once, Within}
 use Rattle.campl_types.proofs.Names.{same-is, same-itself, split-names, among-append}
 use Rattle.campl_types.proofs.Truth.{no-both, not-true, and-first, and-second, and-both, or-first, or-second, or-split, or-none, as-false}

@@ -11,7 +11,7 @@ use Rattle.campl_types.specs.Names.{Name, same_name, found}
 use Rattle.campl_types.specs.SameType.{nowhere, bare, all_bare, bare_chan}
 use Rattle.campl_types.specs.Substitution.{filling, filled, all_filled, list_of, types_of}
 use Rattle.campl_types.specs.World.{World, TypeEntry, DataType, ProtocolType, CoprotocolType, type_named, names_of}
-use Rattle.campl_types.specs.Polarity.{Deed, Puts, Gets, Forks, Splits, Picks, Offers, Ends, IsLinked, Choices, deed, of_named, line, at_whole, bare_choices, bare_deed}
+use Rattle.campl_types.specs.Polarity.{Deed, Puts, Gets, Forks, Splits, Picks, Offers, Choices, deed, of_named, line, at_whole, bare_choices, bare_deed}
 
 -- Types without places
 

@@ -11,8 +11,8 @@ use Rattle.campl_types.specs.Run.{run_faults}
 use Rattle.campl_types.specs.Values.{ConstructorsAreKnown, DataTypesAreKnown}
 use Rattle.campl_types.specs.Polarity.{ProtocolsAreKnown, CoprotocolsAreKnown}
 use Rattle.campl_types.specs.WellDeclared.{IsWellDeclared}
-use Rattle.campl_types.specs.World.{World, world_of, names_of, or_else, where_named, declared_ident, TypeEntry, DataType, ProtocolType, CoprotocolType, type_entry, type_named, as_data, data_named, ConstructorEntry, OfData, OfProtocol, OfCoprotocol, among_data, among_protocol, among_coprotocol, constructor_entry, constructor_named}
-use Rattle.campl_types.proofs.Names.{same-is, same-itself}
+use Rattle.campl_types.specs.World.{World, world_of, names_of, or_else, where_named, declared_ident, TypeEntry, DataType, ProtocolType, CoprotocolType, type_entry, type_named, as_data, ConstructorEntry, OfData, OfProtocol, OfCoprotocol, among_data, among_protocol, among_coprotocol, constructor_entry, constructor_named}
+use Rattle.campl_types.proofs.Names.{same-is}
 use Rattle.campl_types.proofs.Among.{DistinctFrom, none-distinct, distinct-more}
 use Rattle.campl_types.proofs.Listed.{IsIn, firsts, found-in, in-found, found-both, in-front, in-behind, in-either, firsts-both, none-in}
 

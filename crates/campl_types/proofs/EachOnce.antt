@@ -1,5 +1,5 @@
 -- Where each constructor that is offered has one row, the row of each is there, and is found by the constructor's number.
-use Rattle.std.proofs.Common.{◌≡◌, ◌∙◌, ◌⊎◌, inl, inr, refl, sym, subst, ℕ, zero, suc, Bool, true, false, List, [], ◌∷◌, Option, Some, if◌then◌else◌, slice_get, eq-eqb, true≢false}
+use Rattle.std.proofs.Common.{◌≡◌, ◌∙◌, inl, inr, refl, sym, subst, ℕ, zero, suc, Bool, true, false, [], ◌∷◌, Some, if◌then◌else◌, slice_get, eq-eqb, true≢false}
 use Rattle.campl_tree.specs.declared.place.Ident.{Ident}
 use Rattle.campl_tree.specs.Plain.ChanType.{ChanType}
 use Rattle.campl_tree.specs.Plain.Process as b

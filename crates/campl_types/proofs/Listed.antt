@@ -1,5 +1,5 @@
 -- Lists of names with what they stand for.
-use Rattle.std.proofs.Common.{◌≡◌, ◌⊎◌, inl, inr, refl, sym, ap, subst, Bool, true, false, if◌then◌else◌, List, [], ◌∷◌, ◌++◌, Option, Some, None}
+use Rattle.std.proofs.Common.{◌≡◌, ◌⊎◌, inl, inr, refl, sym, ap, subst, Bool, true, false, if◌then◌else◌, List, [], ◌∷◌, ◌++◌, Some, None}
 use Rattle.campl_types.specs.Names.{Name, same_name, is_among, are_distinct, found}
 use Rattle.campl_types.specs.World.{or_else}
 use Rattle.campl_types.proofs.Names.{same-is, same-itself}

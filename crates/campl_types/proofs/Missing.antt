@@ -13,7 +13,7 @@ use Rattle.campl_types.specs.Forms as f
 use Rattle.campl_types.specs.Forms.{Form, Forms, anythings}
 use Rattle.campl_types.specs.Values.{IsValue, AreValues, AllAreValues, ConstructorsAreKnown, parts_at}
 use Rattle.campl_types.specs.World.{World, OfData, constructor_named, data_named}
-use Rattle.campl_types.specs.Matching.{Bindings, both, matched, all_matched, row_matched, first_match, or_next, next_row, number_of, is_number, same_truth, SomeRowMatches}
+use Rattle.campl_types.specs.Matching.{Bindings, both, matched, all_matched, row_matched, number_of, is_number, same_truth, SomeRowMatches}
 use Rattle.campl_types.specs.Missing.{Row, AsLong, AllAsLong, Head, IsNumber, IsCharacter, IsTruth, IsNil, IsCons, IsPair, IsBuilt, IsOther, parts_of, heads, opened, opened_rows, and_then, put_back, all_open, column, or_try, first_missing, missing_by, missing_within, missing, literals}
 
 -- Whether rows match, as truth values

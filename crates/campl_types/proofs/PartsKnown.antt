@@ -1,10 +1,10 @@
 -- In a well declared source the type variables of a constructor's parts are parameters of its data type.
-use Rattle.std.proofs.Common.{◌≡◌, ◌∙◌, ◌⊎◌, inl, inr, refl, sym, ap, subst, ℕ, zero, suc, Bool, true, false, List, [], ◌∷◌, ◌++◌, Option, Some, None, slice_get, true≢false}
+use Rattle.std.proofs.Common.{◌≡◌, ◌∙◌, ◌⊎◌, inl, inr, refl, sym, ap, subst, ℕ, zero, suc, Bool, true, false, List, [], ◌∷◌, Some, None, slice_get, true≢false}
 use Rattle.campl_tree.specs.Plain.SeqType.{SeqType, SeqTypes, no_types, type_then}
 use Rattle.campl_tree.specs.Plain.SeqType as s
-use Rattle.campl_tree.specs.Plain.Decl.{Program, Decl, Data, DataDecl, DataConstructor}
+use Rattle.campl_tree.specs.Plain.Decl.{Program, Data, DataDecl, DataConstructor}
 use Rattle.campl_types.specs.declared.fault.NameFault.{NameFault}
-use Rattle.campl_types.specs.Names.{Name, same_name, is_among, Within}
+use Rattle.campl_types.specs.Names.{same_name, is_among, Within}
 use Rattle.campl_types.specs.Substitution.{variables_of, variables_of_all}
 use Rattle.campl_types.specs.Known.{Heading, in_seq, in_seqs, each, in_decl}
 use Rattle.campl_types.specs.Values.{PartsAreKnown}
