@@ -1,5 +1,5 @@
 //! Types in which parameters stand for arguments.
-ghost use Rattle.std.specs.Prelude.{◌≡◌, ◌++◌, [], ◌∷◌, IfOk, OnOk, None, map, unwrap_or};
+ghost use Rattle.std.specs.Prelude.{◌≡◌, ◌++◌, [], ◌∷◌, IfOk, OnErr, OnOk, None, length, map, take, unwrap_or};
 ghost use Rattle.std.specs.Option.{option_copied};
 ghost use Rattle.campl_tree.specs.View.{view_seq, view_data, view_data_constructor};
 ghost use Rattle.campl_tree.specs.Plain.SeqType as s;
@@ -75,13 +75,28 @@ impl Filling {
     #[tactic(auto, using(crate::proofs::Fillings::binding))]
     pub fn bind(&mut self, alloc: Global, name: &Name, t: SeqType) -> Result<(), AllocError>
         requires { found name.now self.old ≡ None }
-        ensures { OnOk result (self.new ≡ self.old ++ (name.now, t) ∷ []) }
+        ensures ok { OnOk result (self.new ≡ self.old ++ (name.now, t) ∷ []) }
+        ensures err { OnErr result (self.new ≡ self.old) }
     {
         let name = name.copy(alloc)?;
         match self.types.insert(name, t) {
             Ok(_) => Ok(()),
             Err(_) => Err(AllocError),
         }
+    }
+
+    /// How many names stand for a type.
+    pub fn len(&self) -> usize
+        ensures { result ≡ length self.now }
+    {
+        self.types.len()
+    }
+
+    /// Lets all but the first so many names stand for nothing again.
+    pub fn truncate(&mut self, len: usize)
+        ensures { self.new ≡ take len self.old }
+    {
+        self.types.truncate(len);
     }
 
     /// Lets a name stand for a type, unless it stands for one already.

@@ -7,6 +7,5 @@ pub mod Missing
 pub mod MissingUnfolds
 mod FreeCommands
 mod FreeParts
-pub mod OfferedRows
 pub mod FreeNames
 pub mod Forked

@@ -92,6 +92,7 @@ chosen = (
     (_, _, _, _, refl, refl, (_, _, refl, refl, λ v i. rw (other-than (codes "x") [] v i) refl)),
     (_, refl, (_, _, refl, refl, λ v i. rw (other-than (codes "x") [] v i) refl), tt),
   ),
+  refl,
 )
 
 -- race
@@ -163,10 +164,10 @@ raced-at-choices = (
   refl,
   (
     refl,
-    (_, _, _, refl, refl, (refl, refl), (_, refl, (_, _, refl, refl, (_, _, _, _, refl, refl, (refl, refl, refl), (_, _, refl, refl, (_, _, refl, refl, λ v i. simp (other-than (codes "z") [] v i, newest, newest-behind, given-up))))), tt)),
+    (_, _, _, refl, refl, (refl, refl), (_, refl, (_, _, refl, refl, (_, _, _, _, refl, refl, (refl, refl, refl), (_, _, refl, refl, (_, _, refl, refl, λ v i. simp (other-than (codes "z") [] v i, newest, newest-behind, given-up))))), tt), refl),
     (
       refl,
-      (_, _, _, _, refl, refl, (refl, refl, refl), (_, _, refl, refl, (_, _, refl, refl, (_, _, _, refl, refl, (refl, refl), (_, refl, (_, _, refl, refl, λ v i. simp (other-than (codes "x") [] v i, newest, newest-behind, given-up)), tt))))),
+      (_, _, _, _, refl, refl, (refl, refl, refl), (_, _, refl, refl, (_, _, refl, refl, (_, _, _, refl, refl, (refl, refl), (_, refl, (_, _, refl, refl, λ v i. simp (other-than (codes "x") [] v i, newest, newest-behind, given-up)), tt), refl)))),
       tt,
     ),
   ),

@@ -7,7 +7,7 @@ use Rattle.campl_tree.specs.Plain.Process as b
 use Rattle.campl_types.specs.World.{World}
 use Rattle.campl_types.specs.Held.{Held, On, nothing_held, with}
 use Rattle.campl_types.specs.Linear.{IsWellFormed}
-use Rattle.campl_types.specs.Free.{is_free, all_have_constructors}
+use Rattle.campl_types.specs.Free.{is_free}
 use Rattle.typing_examples.proofs.Sources.{place, ident, protocol, protocol_decl}
 
 abbrev a : Ident
@@ -77,25 +77,16 @@ fork-binds-a = refl
 fork-binds-q-in-one : is_free (codes "q") forks ≡ true
 fork-binds-q-in-one = refl
 
--- a protocol without constructors, and one who takes a choice of none while he holds q
+-- a protocol without constructors, and one who holds q while he takes a choice of none
 empty : World
 empty = protocol_decl 1 (ident 1 10 (codes "Never")) [] (ident 1 19 (codes "S")) [] ∷ []
-
-empty-lacks-one : all_have_constructors empty ≡ false
-unfolding empty
-empty-lacks-one = refl
 
 holds-more : Held
 holds-more = with (codes "p") (Some (On Input (protocol 1 1 (codes "Never")))) (with (codes "q") (Some (On Input TopBot)) nothing_held)
 
--- so the premise of the law is needed: this body is well formed, holds q, and doesn't name it
-takes-nothing : IsWellFormed empty [] holds-more (b.Hcase (place 2 1) p b.no_hcase_rows)
-unfolding empty holds-more
-takes-nothing = (_, _, _, refl, refl, (refl, refl), tt)
-
-holds-q : holds-more (codes "q") ≡ Some (On Input TopBot)
-unfolding holds-more
-holds-q = refl
+-- his body doesn't name q, and would hold it without end: an `hcase` has a row
+takes-nothing : IsWellFormed empty [] holds-more (b.Hcase (place 2 1) p b.no_hcase_rows) → ⊥
+takes-nothing (s, u, cs, i, j, each, rows, some) = cc some
 
 names-no-q : is_free (codes "q") (b.Hcase (place 2 1) p b.no_hcase_rows) ≡ false
 names-no-q = refl

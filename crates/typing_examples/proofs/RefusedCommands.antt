@@ -161,7 +161,7 @@ zero-row = b.hcase_row_then (ident 2 5 (codes "Zero")) (b.Halt (place 2 13) (Som
 --     Zero -> halt x
 -- says nothing of One
 row-missing : IsWellFormed bits [] (one Input bit) (b.Hcase (place 1 1) x (zero-row b.no_hcase_rows)) → ⊥
-row-missing (r, u, cs, i, j, each, rows) =
+row-missing (r, u, cs, i, j, each, rows, some) =
     let k : cs ≡ (codes "Zero", TopBot) ∷ (codes "One", TopBot) ∷ [] = cc (one-deed bits i j) in
     cc (subst (HasEachOnce (zero-row b.no_hcase_rows)) k each).1
 
@@ -169,14 +169,14 @@ row-missing (r, u, cs, i, j, each, rows) =
 --     Zero -> halt x
 --     Zero -> halt x
 row-twice : IsWellFormed bits [] (one Input bit) (b.Hcase (place 1 1) x (zero-row (zero-row b.no_hcase_rows))) → ⊥
-row-twice (r, u, cs, i, j, (different, all), rows) = cc different
+row-twice (r, u, cs, i, j, (different, all), rows, some) = cc different
 
 -- hcase x of
 --     Zero -> halt x
 --     One -> halt x
 --     ConsoleClose -> halt x
 other-row : IsWellFormed bits [] (one Input bit) (b.Hcase (place 1 1) x (zero-row (b.hcase_row_then (ident 3 5 (codes "One")) (b.Halt (place 3 12) (Some x)) (b.hcase_row_then (ident 4 5 (codes "ConsoleClose")) (b.Halt (place 4 21) (Some x)) b.no_hcase_rows)))) → ⊥
-other-row (r, u, cs, i, j, each, (t, k, body, (v, l, other, (z, m, third, rest)))) = cc (one-deed bits i j, m)
+other-row (r, u, cs, i, j, each, (t, k, body, (v, l, other, (z, m, third, rest))), some) = cc (one-deed bits i j, m)
 
 -- hput One on x, where a choice is awaited
 awaited : IsWellFormed bits [] (one Input bit) (b.Then (b.Hput (place 1 1) (ident 1 6 (codes "One")) x) (b.Halt (place 2 1) (Some x))) → ⊥

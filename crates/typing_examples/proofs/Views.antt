@@ -157,7 +157,7 @@ pair-value = ((tt, tt), tt)
 
 -- Just(7) is a Maybe(Int), and no Maybe(Char)
 just-seven : IsValue w (v.Built 1 (v.more (v.Int (pos 7)) v.none)) (s.Named (place 9 1) (codes "Maybe") (s.type_then s.Int s.no_types))
-just-seven = (_, _, refl, refl, (tt, tt))
+just-seven = (_, _, refl, refl, refl, (tt, tt))
 
 -- of a type variable is any value
 any-value : IsValue w (v.Built 5 v.none) (s.Variable (place 9 1) (codes "a"))
