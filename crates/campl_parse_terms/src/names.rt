@@ -68,7 +68,7 @@ pub fn idents(
 fn starts_var(cursor: &Cursor<'_>) -> bool
     ensures { result ≡ next_in terminals (starts var_name) cursor.now }
 {
-    cursor.at(Kind::Lower) || cursor.at(Kind::Wildcard)
+    cursor.at_any(&[Kind::Lower, Kind::Wildcard])
 }
 
 /// Names or `_` with commas between them, or none.
