@@ -53,3 +53,8 @@ module _ {A : Type 0} (d : ℕ) (lines : List Word → Outcome Word (List A)) (t
 -- a call that reads a name doesn't leave more words than there were
 pub shortens : (m : Name) (d : ℕ) (ts us : List Word) (x : Value m) → Reads (read m d ts) (Ok x) us → length us ≤ length ts
 shortens m d ts us x h = let a : length us + need (tables.nul m) ≤ length ts = leaves m d ts us x h in omega arith
+
+-- a word in front leaves the value of what stands behind it as it is
+pub behind_word : {A : Type 0} (o : Outcome Word A) (r : Result A ParseError) (left : List Word) → Reads o r left → Reads (and_then o (λ x us. (Ok x, us))) r left
+behind_word (Ok x, us) r left h = h
+behind_word (Err f, us) r left h = h

@@ -4,7 +4,7 @@ ghost use Rattle.campl_gram.specs.Reading.{next_in, expect};
 ghost use Rattle.campl_gram.specs.Grammar.{place_at};
 ghost use Rattle.campl_grammar.specs.Word.{same, terminals};
 ghost use Rattle.campl_grammar.specs.Rules.{piece, lower, upper, limit};
-ghost use Rattle.campl_parse_terms.specs.Pieces.{choice};
+ghost use Rattle.campl_parse_terms.specs.Pieces.{choice, lower_before, upper_before};
 ghost use Rattle.campl_parse_terms.specs.Reads.{Reads, Fails};
 
 use crate::error::ParseError;
@@ -145,6 +145,34 @@ impl<'a> Cursor<'a> {
         ensures shallow { OnOk result (depth ≤ 200) }
     {
         let word = read!(self.expect(Kind::Upper, depth));
+        Ok(made!(word.ident(alloc)))
+    }
+
+    /// Takes a name that begins with a small letter, and a word of this kind behind it.
+    pub fn lower_before(
+        &mut self,
+        alloc: Global,
+        kind: Kind,
+        depth: u32,
+    ) -> Result<Ident, ParseError>
+        ensures { Reads (piece (lower_before kind) depth self.old) result self.new }
+    {
+        let word = read!(self.expect(Kind::Lower, depth));
+        read!(self.expect(kind, depth));
+        Ok(made!(word.ident(alloc)))
+    }
+
+    /// Takes a name that begins with `A` to `Z`, and a word of this kind behind it.
+    pub fn upper_before(
+        &mut self,
+        alloc: Global,
+        kind: Kind,
+        depth: u32,
+    ) -> Result<Ident, ParseError>
+        ensures { Reads (piece (upper_before kind) depth self.old) result self.new }
+    {
+        let word = read!(self.expect(Kind::Upper, depth));
+        read!(self.expect(kind, depth));
         Ok(made!(word.ident(alloc)))
     }
 }
