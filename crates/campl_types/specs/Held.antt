@@ -1,5 +1,5 @@
 -- The channels that a process holds, each on a side and with its type.
-use Rattle.std.specs.Prelude.{◌≡◌, Bool, true, false, ◌&&◌, IsTrue, List, [], ◌∷◌, Option, Some, None, if◌then◌else◌}
+use Rattle.std.specs.Prelude.{◌≡◌, Bool, true, false, ◌&&◌, IsTrue, List, Option, Some, None, if◌then◌else◌}
 use Rattle.campl_tree.specs.declared.service.Side.{Side}
 use Rattle.campl_tree.specs.Plain.ChanType.{ChanType, Put, Get, Tensor, Par, TopBot, Neg, Named}
 use Rattle.campl_types.specs.Names.{Name, same_name, is_among, is_empty}
