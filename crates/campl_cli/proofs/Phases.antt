@@ -16,8 +16,8 @@ use Rattle.campl_lex.specs.Layout.{laid_out, laid, adds, Put, onto, andThen, sep
 use Rattle.campl_tree.specs.Plain.Decl as d
 use Rattle.campl_types.specs.declared.fault.NameFault.{NameFault}
 use Rattle.campl_types.specs.declared.fault.NameFault.TheVariants as naming
-use Rattle.campl_types.specs.Judges.{Judges}
-use Rattle.campl_types.specs.Judges as judge
+use Rattle.campl_names.specs.Judges.{Judges}
+use Rattle.campl_names.specs.Judges as judge
 use Rattle.campl_types.specs.WellDeclared.{name_faults}
 use Rattle.campl_cli.specs.Source.{HasTokens, end_of, refusal_of_lexing, IsTreeRefusal, refusal_of_naming, IsRefusedForNames}
 

@@ -1,5 +1,5 @@
 -- What the command answers, and what it has written by then.
-use Rattle.std.specs.Prelude.{◌≡◌, ◌≢◌, ℕ, ◌⊎◌, List, [], ◌∷◌, ◌++◌, Option, Some, None}
+use Rattle.std.specs.Prelude.{◌≡◌, ◌≢◌, ◌≤◌, ℕ, ◌⊎◌, List, [], ◌∷◌, ◌++◌, Option, Some, None}
 use Rattle.std.specs.Io.KnownBytes.{Appends}
 use Rattle.campl_text.specs.Counts.{Rose}
 use Rattle.campl_meaning.specs.Reductions.{Configuration}
@@ -47,11 +47,12 @@ HadOrFailed s bytes = Had s bytes ⊎ FailedIn s bytes
 abbrev pub step_budget : ℕ
 step_budget = 100000
 
--- the journal is a run of the source's reductions from its start to this configuration, which is finished
+-- the journal is a run of the source's reductions from its start to this configuration, which is finished, within the budget
 pub record HasRun (p : Prints) (report : Report) (last : Configuration) : Type 0 where
   pub run : IsRunFromStart (source_of p) [] (plain_entries report.journal.entries) last
   pub end : IsEnd last report.steps step_budget e.Finished
   pub steps : report.steps ≡ weight_of report.journal.entries
+  pub within : report.steps ≤ step_budget
   pub ended : report.ended ≡ Some Finished
 
 -- nothing ran
