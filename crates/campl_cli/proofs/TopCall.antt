@@ -12,10 +12,10 @@ use Rattle.campl_config.specs.declared.entry.Entry.{Entry}
 use Rattle.campl_config.specs.Journal.{plain_entries, weight_of}
 use Rattle.campl_cli.specs.declared.performance.Performance.{Performance}
 use Rattle.campl_cli.specs.declared.refusal.Refusal.{Refusal}
-use Rattle.campl_cli.specs.declared.refusal.Refusal.TheVariants.{OutOfMemory}
+use Rattle.campl_cli.specs.declared.refusal.Refusal.TheVariants.{BadCommandLine, ReadFault, TooLong, NotUtf8, Source, NotBuilt, OutOfMemory}
 use Rattle.campl_cli.specs.declared.report.Report.{Report}
 use Rattle.campl_cli.specs.Form.{Prints}
-use Rattle.campl_cli.specs.Refusals.{Files, IsAccepted, IsDue}
+use Rattle.campl_cli.specs.Refusals.{Files, IsAccepted, IsDue, TakesMemory}
 use Rattle.campl_cli.specs.Performance.{IsPerformance, IsPrinted}
 use Rattle.campl_cli.specs.Answer.{Stream, Had, HadNothing, HasRun, IsAnswer, IsTold, IsRefused, FailedIn, printed, step_budget}
 use Rattle.campl_cli.proofs.Printing.{Comes, printing-runs}
@@ -80,8 +80,18 @@ module _ (words : List (List ℕ)) (files : Files) (out err : Stream) (report : 
     | inr answer ↦ inr (inr (inr (record { status = answer.0; refusal = refusal; due = due; other = answer.1; no_run = told.no_run; no_output = nothing; told = answer.2 })))
   ]
 
+  -- where a line takes memory, the words are a command
+  starved : (refusal : Refusal) → IsDue words files refusal → TakesMemory refusal → IsDue words files OutOfMemory
+  starved (NotUtf8 at) (file, is, refused) takes = (file, is, tt)
+  starved (Source fault) (file, is, refused) takes = (file, is, tt)
+  starved BadCommandLine due takes = absurd takes
+  starved TooLong due takes = absurd takes
+  starved NotBuilt due takes = absurd takes
+  starved ReadFault due takes = absurd takes
+  starved OutOfMemory due takes = absurd takes
+
   pub answers_refusal : (refusal : Refusal) → IsDue words files refusal → HadNothing out → IsRefused refusal err report → IsAnswer words files out err report
   answers_refusal refusal due nothing refused = elim refused [
     | inl told ↦ told_answer refusal due nothing told
-    | inr told ↦ told_answer OutOfMemory tt nothing told
+    | inr told ↦ told_answer OutOfMemory (starved refusal due told.0) nothing told.1
   ]

@@ -14,7 +14,7 @@ use Rattle.campl_cli.specs.declared.report.Report.{Report}
 use Rattle.campl_cli.specs.declared.report.Ended.TheVariants.{Finished}
 use Rattle.campl_cli.specs.Form.{Prints}
 use Rattle.campl_cli.specs.Printing.{source_of}
-use Rattle.campl_cli.specs.Refusals.{Files, IsAccepted, IsDue, status_of, line_of, write_fault_line}
+use Rattle.campl_cli.specs.Refusals.{Files, IsAccepted, IsDue, TakesMemory, status_of, line_of, write_fault_line}
 
 -- what a stream has had before and after the call, where it tells it, and its counts of faults
 pub record Stream : Type 0 where
@@ -115,6 +115,6 @@ pub record IsTold (refusal : Refusal) (err : Stream) (report : Report) : Type 0 
   pub answer : ((report.status ≡ status_of refusal) × (Had err (line_of refusal) ⊎ ((refusal ≡ OutOfMemory) × FailedIn err (line_of refusal))))
       ⊎ ((report.status ≡ 6) × (refusal ≢ OutOfMemory) × FailedIn err (line_of refusal))
 
--- the same, but for want of memory, which may come in the place of the refusal
+-- the same, but for want of memory, which may come in the place of a refusal whose line takes memory
 abbrev pub IsRefused : Refusal → Stream → Report → Type 0
-IsRefused refusal err report = IsTold refusal err report ⊎ IsTold OutOfMemory err report
+IsRefused refusal err report = IsTold refusal err report ⊎ (TakesMemory refusal × IsTold OutOfMemory err report)

@@ -1,0 +1,4 @@
+pub mod LineSteps
+pub mod Starts
+pub mod Expressions
+pub mod Cases

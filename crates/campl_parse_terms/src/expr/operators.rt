@@ -1,0 +1,81 @@
+//! Operators between expressions.
+ghost use Rattle.std.specs.Prelude.{◌≡◌, OnOk, ◌≤◌};
+ghost use Rattle.campl_gram.specs.Reading.{next_in};
+ghost use Rattle.campl_grammar.specs.Names as name;
+ghost use Rattle.campl_grammar.specs.Rules.{read};
+ghost use Rattle.campl_grammar.specs.Tables.{starts};
+ghost use Rattle.campl_grammar.specs.Word.{terminals};
+ghost use Rattle.campl_parse_terms.specs.Reads.{Reads};
+
+use crate::cursor::Cursor;
+use crate::error::ParseError;
+use campl_grammar::Kind;
+use campl_tree::{Arithmetic, Comparison};
+
+/// Whether the next word compares.
+pub fn starts_comparison(cursor: &Cursor<'_>) -> bool
+    ensures { result ≡ next_in terminals (starts name.comparison) cursor.now }
+{
+    let kinds = [
+        Kind::Equal,
+        Kind::Different,
+        Kind::Less,
+        Kind::AtMost,
+        Kind::Greater,
+        Kind::AtLeast,
+    ];
+    cursor.at_any(&kinds)
+}
+
+/// Whether the next word adds or subtracts.
+pub fn starts_terms(cursor: &Cursor<'_>) -> bool
+    ensures { result ≡ next_in terminals (starts name.terms) cursor.now }
+{
+    cursor.at_any(&[Kind::Plus, Kind::Minus])
+}
+
+/// Whether the next word multiplies or divides.
+pub fn starts_factors(cursor: &Cursor<'_>) -> bool
+    ensures { result ≡ next_in terminals (starts name.factors) cursor.now }
+{
+    cursor.at_any(&[Kind::Star, Kind::Div, Kind::Mod])
+}
+
+/// A comparison's operator.
+#[tactic(auto, using(campl_grammar::proofs::ByRule::reads_comparison))]
+pub fn comparison(cursor: &mut Cursor<'_>, depth: u32) -> Result<Comparison, ParseError>
+    ensures reads { Reads (read name.comparison depth cursor.old) result cursor.new }
+    ensures shallow { OnOk result (depth ≤ 200) }
+{
+    let others = [
+        (Kind::Different, Comparison::Different),
+        (Kind::Less, Comparison::Less),
+        (Kind::AtMost, Comparison::AtMost),
+        (Kind::Greater, Comparison::Greater),
+        (Kind::AtLeast, Comparison::AtLeast),
+    ];
+    cursor.one_of((Kind::Equal, Comparison::Equal), &others, depth)
+}
+
+/// `+` or `-`.
+#[tactic(auto, using(campl_grammar::proofs::ByRule::reads_addition))]
+pub fn addition(cursor: &mut Cursor<'_>, depth: u32) -> Result<Arithmetic, ParseError>
+    ensures reads { Reads (read name.addition depth cursor.old) result cursor.new }
+    ensures shallow { OnOk result (depth ≤ 200) }
+{
+    let others = [(Kind::Minus, Arithmetic::Subtract)];
+    cursor.one_of((Kind::Plus, Arithmetic::Add), &others, depth)
+}
+
+/// `*`, `div` or `mod`.
+#[tactic(auto, using(campl_grammar::proofs::ByRule::reads_multiplication))]
+pub fn multiplication(cursor: &mut Cursor<'_>, depth: u32) -> Result<Arithmetic, ParseError>
+    ensures reads { Reads (read name.multiplication depth cursor.old) result cursor.new }
+    ensures shallow { OnOk result (depth ≤ 200) }
+{
+    let others = [
+        (Kind::Div, Arithmetic::Divide),
+        (Kind::Mod, Arithmetic::Remainder),
+    ];
+    cursor.one_of((Kind::Star, Arithmetic::Multiply), &others, depth)
+}
