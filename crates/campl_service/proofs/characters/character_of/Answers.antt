@@ -1,7 +1,7 @@
 use Rattle.std.proofs.Common.{arith, sym}
 use Rattle.campl_service.proofs.Numbers.{above, no_character}
 use Rattle.campl_service.specs.Escapes.{hex_digit, hex_value}
-use Rattle.campl_service.proofs.characters.character_named.Goals as goal
+use Rattle.campl_service.proofs.characters.character_of.Goals as goal
 
 pub returns-then-value-gt1114111 : goal.returns-then-value-gt1114111
 returns-then-value-gt1114111 c =
