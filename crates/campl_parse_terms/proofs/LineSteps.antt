@@ -1,6 +1,5 @@
 -- One line more of those that are read.
-use Rattle.std.proofs.Common.{◌≡◌, ℕ, suc, ◌+◌, ◌≤◌, Bool, true, false, List, [], ◌∷◌, ◌++◌, length, Result, Ok, Err, refl, sym, ap, ◌∙◌, arith, append-nil}
-use Rattle.campl_gram.specs.declared.fault.Fault.{Fault}
+use Rattle.std.proofs.Common.{◌≡◌, ℕ, suc, ◌+◌, ◌≤◌, true, false, List, [], ◌∷◌, ◌++◌, length, Result, Ok, Err, refl, sym, ◌∙◌, arith}
 use Rattle.campl_gram.specs.Reading.{Outcome, and_then, adds, next_in, expect}
 use Rattle.campl_gram.proofs.Fuel.{need}
 use Rattle.campl_gram.proofs.Lists.{adds_one}
@@ -14,7 +13,7 @@ use Rattle.campl_grammar.proofs.Exactness.{leaves}
 use Rattle.campl_parse_terms.specs.declared.error.ParseError.{ParseError}
 use Rattle.campl_parse_terms.specs.declared.error.ParseError.TheVariants.{OutOfMemory, Refused}
 use Rattle.campl_parse_terms.specs.Reads.{Reads, Fails}
-use Rattle.campl_parse_terms.specs.Lines.{AreLines, behind_line, behind_word, in_block}
+use Rattle.campl_parse_terms.specs.Lines.{AreLines, behind_word, in_block}
 
 module _ {A : Type 0} (d : ℕ) (line : List Word → Outcome Word A) (lines : List Word → Outcome Word (List A)) (are : AreLines d line lines) (found : List A) (ts us : List Word) (old : Outcome Word (List A)) (so_far : adds found (lines ts) ≡ old) where
   -- where a line is refused, all are

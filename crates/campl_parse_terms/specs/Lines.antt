@@ -1,7 +1,7 @@
 -- Lines with `;` between them, and the calls that read one.
 use Rattle.std.specs.Prelude.{◌≡◌, ℕ, suc, ◌≤◌, List, [], ◌∷◌, length, Result, Ok, if◌then◌else◌}
-use denote.Ref.{MutBor}
-use denote.Param.Members.{Shared}
+use Rattle.std.specs.Borrow.{MutBor}
+use Rattle.std.specs.Fn.{Shared}
 use Rattle.campl_gram.specs.Reading.{Outcome, and_then, next_in, expect}
 use Rattle.campl_grammar.specs.declared.kind.Kind.{Kind}
 use Rattle.campl_grammar.specs.declared.kind.Kind.TheVariants as k
