@@ -21,13 +21,13 @@ use Rattle.campl_cli.specs.Source.{HasTokens, HasLayout, HasTree, IsTextFault}
 
 -- ---- tokens and layout
 
-same_tokens : (text : List ℕ) (these those : List Token) → HasTokens text these → HasTokens text those → these ≡ those
+pub same_tokens : (text : List ℕ) (these those : List Token) → HasTokens text these → HasTokens text those → these ≡ those
 same_tokens text these those h k = let e : ◌≡◌ {A = Result (List Token) LexFault} (Ok these) (Ok those) = one h k in cc
 
-no_fault : (text : List ℕ) (tokens : List Token) (fault : LexFault) → HasTokens text tokens → Lexes first_spot (chars text) (Err fault) → ⊥
+pub no_fault : (text : List ℕ) (tokens : List Token) (fault : LexFault) → HasTokens text tokens → Lexes first_spot (chars text) (Err fault) → ⊥
 no_fault text tokens fault h k = let e : ◌≡◌ {A = Result (List Token) LexFault} (Ok tokens) (Err fault) = one h k in cc
 
-same_layout : (text : List ℕ) (this that : List Token) → HasLayout text this → HasLayout text that → this ≡ that
+pub same_layout : (text : List ℕ) (this that : List Token) → HasLayout text this → HasLayout text that → this ≡ that
 same_layout text this that (tokens, has, laid) (others, have, lie) = let e = same_tokens text tokens others has have in cc
 
 no_bad_column : (text : List ℕ) (laid : List Token) (at : Place) → HasLayout text laid → IsTextFault text BadColumn at → ⊥
@@ -36,13 +36,13 @@ no_bad_column text laid at (tokens, has, is) (others, have, fails) = let e = sam
 -- ---- words
 
 -- a word among nested ones, none of which is too deep
-record Among (nested : List (Nested Word)) (before : List Word) (word : Word) : Type 0 where
-  front : List (Nested Word)
-  depth : ℕ
-  more : List (Nested Word)
-  split : nested ≡ front ++ (word, depth) ∷ more
-  is : bare front ≡ before
-  within : nat_le depth limit ≡ true
+pub record Among (nested : List (Nested Word)) (before : List Word) (word : Word) : Type 0 where
+  pub front : List (Nested Word)
+  pub depth : ℕ
+  pub more : List (Nested Word)
+  pub split : nested ≡ front ++ (word, depth) ∷ more
+  pub is : bare front ≡ before
+  pub within : nat_le depth limit ≡ true
 
 behind_one : (nested : List (Nested Word)) (before : List Word) (word x y : Word) (n : ℕ) → y ≡ x → Among nested before word → Among ((y, n) ∷ nested) (x ∷ before) word
 behind_one nested before word x y n same a = record {
@@ -54,7 +54,7 @@ behind_one nested before word x y n same a = record {
   within = a.within;
 }
 
-among : (nested : List (Nested Word)) (before : List Word) (word : Word) (behind : List Word) → bare nested ≡ before ++ word ∷ behind → Shallow limit nested → Among nested before word
+pub among : (nested : List (Nested Word)) (before : List Word) (word : Word) (behind : List Word) → bare nested ≡ before ++ word ∷ behind → Shallow limit nested → Among nested before word
 among [] [] word behind e h = absurd cc
 among [] (x ∷ before) word behind e h = absurd cc
 among ((y, n) ∷ nested) [] word behind e h = record {

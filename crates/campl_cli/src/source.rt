@@ -72,8 +72,9 @@ pub fn tree_of(alloc: Global, text: &Text) -> Result<Program, Refusal>
     }
 }
 
-/// A text has one tree or a fault of tokens, layout or grammar, and never both.
+/// A text has one tree or one first fault of tokens, layout or grammar, and never both.
 pub fn one_answer()
     ensures tree { (text : List ℕ) (this that : Program) → HasTree text this → HasTree text that → this ≡ that }
     ensures no_fault { (text : List ℕ) (program : Program) (kind : FaultKind) (at : Place) → HasTree text program → ¬ (IsTextFault text kind at) }
+    ensures one_fault { (text : List ℕ) (kind other : FaultKind) (at there : Place) → IsTextFault text kind at → IsTextFault text other there → (kind ≡ other) × (at ≡ there) }
 {}
