@@ -41,7 +41,7 @@ module _ (p : Place) (c : ℕ) (cs : List ℕ) where
   piece_literal t w m n d q = rw (t, w, m, n, d, q) refl
 
   pub piece_symbol : (c == 9) ≡ false → is_white c cs ≡ false → begins_comment (c ∷ cs) ≡ false → begins_name c ≡ false → is_ascii_digit c ≡ false → is_quote c ≡ false
-      → piece p (c ∷ cs) ≡ symbol_piece p c cs
+      → piece p (c ∷ cs) ≡ symbol_piece p (c ∷ cs)
   unfolding piece
   piece_symbol t w m n d q = rw (t, w, m, n, d, q) refl
 

@@ -5,4 +5,5 @@ pub mod Literal
 pub mod Reading
 pub mod Spelling
 pub mod Spot
+pub mod Tables
 pub mod Tokens

@@ -7,7 +7,7 @@ use Rattle.campl_tree.specs.declared.place.Place.{Place}
 use Rattle.campl_lex.specs.Limits.{longest_name, longest_text, greatest_number}
 use Rattle.campl_lex.specs.declared.token.Token.{Token}
 use Rattle.campl_lex.specs.declared.token.TokenKind.{TokenKind}
-use Rattle.campl_lex.specs.declared.token.TokenKind.TheVariants.{Number, Text, Character, Symbol}
+use Rattle.campl_lex.specs.declared.token.TokenKind.TheVariants.{Number, Text, Character}
 use Rattle.campl_lex.specs.declared.spot.Spot.{Spot}
 use Rattle.campl_lex.specs.declared.literal.Stop.{Stop}
 use Rattle.campl_lex.specs.declared.literal.Stop.TheVariants as stop
@@ -16,7 +16,7 @@ use Rattle.campl_lex.specs.declared.piece.Piece.{Piece}
 use Rattle.campl_lex.specs.declared.fault.LexFault.{LexFault}
 use Rattle.campl_lex.specs.declared.fault.LexFault.TheVariants.{BadCharacter, OpenString, BadEscape, NumberTooLarge, NameTooLong, Tab, TextTooLong}
 use Rattle.campl_lex.specs.Spot.{past}
-use Rattle.campl_lex.specs.Spelling.{begins_name, goes_on, number_of, is_single, is_double, is_triple, name_kind}
+use Rattle.campl_lex.specs.Spelling.{begins_name, goes_on, number_of, is_single, is_double, is_triple, name_kind, symbol_kind}
 use Rattle.campl_lex.specs.Literal.{short_escape, is_hex_digit, hex_value}
 use Rattle.campl_lex.specs.Tokens.{begins_comment, is_white, is_quote}
 use Rattle.campl_lex.specs.Layout.{adds}
@@ -99,8 +99,9 @@ number_piece p w = if nat_le (number_of w) greatest_number then Ok (record { kin
 abbrev pub symbol_len : ℕ → List ℕ → ℕ
 symbol_len a cs = if is_triple a (peek 0 cs) (peek 1 cs) then 3 else (if is_double a (peek 0 cs) then 2 else (if is_single a then 1 else 0))
 
-abbrev pub symbol_piece : Place → ℕ → List ℕ → Result Piece LexFault
-symbol_piece p c cs = let n = symbol_len c cs in if n == 0 then Err (BadCharacter p) else Ok (record { kind = Some Symbol; length = n })
+abbrev pub symbol_piece : Place → List ℕ → Result Piece LexFault
+symbol_piece p [] = Err (BadCharacter p)
+symbol_piece p (c ∷ cs) = let n = symbol_len c cs in if n == 0 then Err (BadCharacter p) else Ok (record { kind = Some (symbol_kind (take n (c ∷ cs))); length = n })
 
 abbrev pub blank : ℕ → Piece
 blank n = record { kind = None; length = n }
@@ -115,7 +116,7 @@ piece p (c ∷ cs) =
     else (if begins_name c then name_piece p (c ∷ take (prefix_len goes_on cs) cs)
     else (if is_ascii_digit c then number_piece p (c ∷ take (prefix_len is_ascii_digit cs) cs)
     else (if is_quote c then literal p c cs
-    else symbol_piece p c cs)))))
+    else symbol_piece p (c ∷ cs))))))
 
 -- the token of a piece, if it is one
 abbrev pub tokens_of : Option TokenKind → Spot → Spot → List Token

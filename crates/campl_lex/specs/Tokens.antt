@@ -12,7 +12,7 @@ use Rattle.campl_lex.specs.declared.fault.LexFault.TheVariants.{BadCharacter, Op
 use Rattle.campl_lex.specs.Spot.{place_past, past, first_spot}
 use Rattle.campl_lex.specs.Spelling.{is_name, is_number, number_of, is_symbol, kind_of}
 use Rattle.campl_lex.specs.Literal.{IsEscape, Spells}
-use Rattle.campl_lex.specs.Layout.{adds, text_of}
+use Rattle.campl_lex.specs.Layout.{adds, lexeme_of}
 
 -- the character stands first
 abbrev pub begins_with : ℕ → List ℕ → Bool
@@ -89,11 +89,11 @@ pub data Offends (p : Place) : List ℕ → LexFault → Type 0 where
 abbrev pub token : Spot → List ℕ → Token
 token s w = record { kind = kind_of w; start = s.at; stop = (past s w).at; place = s.place }
 
--- in the bytes of a source a token's text is a spelling, which tells its kind
+-- in the bytes of a source a token's lexeme is a spelling, which tells its kind
 pub record IsSlice (source : List ℕ) (t : Token) : Type 0 where
   pub letters : List ℕ
   pub spelling : IsSpelling letters
-  pub bytes_are : text_of source t ≡ encode_utf8_all letters
+  pub bytes_are : lexeme_of source t ≡ encode_utf8_all letters
   pub kind_is : t.kind ≡ kind_of letters
 
 -- A text that begins at a spot has this list of tokens, or this first fault.

@@ -11,6 +11,7 @@
 
 mod blocks;
 mod fault;
+mod kinds;
 mod letters;
 mod lexer;
 mod limits;
@@ -19,7 +20,6 @@ mod piece;
 mod spot;
 mod stack;
 mod token;
-mod words;
 
 pub use blocks::layout;
 pub use fault::LexFault;
