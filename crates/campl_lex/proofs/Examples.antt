@@ -1,5 +1,5 @@
 -- Worked values of the definitions.
-use Rattle.std.proofs.Common.{◌≡◌, ℕ, ◌+◌, true, false, [], ◌∷◌, replicate, Some, Ok, Err, refl, codes}
+use Rattle.std.proofs.Common.{◌≡◌, ℕ, ◌+◌, true, false, [], ◌∷◌, replicate, Some, None, Ok, Err, refl, codes}
 use Rattle.campl_lex.specs.declared.token.TokenKind.TheVariants as kind
 use Rattle.campl_lex.specs.declared.token.Token.{Token}
 use Rattle.campl_lex.specs.declared.fault.LexFault.TheVariants.{BadColumn, NumberTooLarge, NameTooLong, TextTooLong}
@@ -8,6 +8,7 @@ use Rattle.campl_lex.specs.declared.literal.Stop.TheVariants as stop
 use Rattle.campl_lex.specs.Spot.{place_past, first_place, bytes}
 use Rattle.campl_lex.specs.Spelling.{number_of, reserved, name_kind, symbol_kind, kind_of}
 use Rattle.campl_lex.specs.Literal.{hex_value}
+use Rattle.campl_lex.specs.Meaning.{escape, unescaped}
 use Rattle.campl_lex.specs.Tokens.{begins_comment, is_white}
 use Rattle.campl_lex.specs.Reading.{symbol_len, escape_len, scan, name_piece, number_piece, closed_literal}
 use Rattle.campl_lex.specs.Layout.{laid, laid_out, inserted, is_enclosed}
@@ -41,6 +42,10 @@ places = (refl, refl)
 
 escapes : (escape_len (codes "nx") ≡ 1) × (escape_len (codes "u{41}x") ≡ 5) × (escape_len (codes "u{D800}") ≡ 0) × (escape_len (codes "u{}") ≡ 0) × (escape_len (codes "u{1234567}") ≡ 0)
 escapes = (refl, refl, refl, refl, refl)
+
+-- what escapes stand for
+escaped_are : (escape (codes "nx") ≡ Some (10, 1)) × (escape (codes "u{e9}x") ≡ Some (233, 5)) × (escape (codes "q") ≡ None) × (unescaped 0 (codes "a\\u{41}\\qb") ≡ codes "aA\\qb")
+escaped_are = (refl, refl, refl, refl)
 
 -- a\"b" has three characters in four
 literal : scan 34 0 (97 ∷ 92 ∷ 34 ∷ 98 ∷ 34 ∷ []) ≡ record { stop = stop.Quote; length = 4; count = 3 }

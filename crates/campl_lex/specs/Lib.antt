@@ -2,6 +2,7 @@ pub mod Enclosure
 pub mod Layout
 pub mod Limits
 pub mod Literal
+pub mod Meaning
 pub mod Reading
 pub mod Spelling
 pub mod Spot

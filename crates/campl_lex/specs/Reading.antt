@@ -2,7 +2,6 @@
 use Rattle.std.specs.Prelude.{ℕ, zero, suc, ◌+◌, ◌-◌, not, ◌&&◌, ◌==◌, nat_lt, nat_le, if◌then◌else◌, List, [], ◌∷◌, length, take, Option, Some, None, is_some, slice_index_or, Result, Ok, Err}
 use Rattle.std.specs.List.{prefix_len}
 use Rattle.std.specs.Char.{is_ascii_digit}
-use lib.Utf8.{scalar}
 use Rattle.campl_tree.specs.declared.place.Place.{Place}
 use Rattle.campl_lex.specs.Limits.{longest_name, longest_text, greatest_number}
 use Rattle.campl_lex.specs.declared.token.Token.{Token}
@@ -17,7 +16,7 @@ use Rattle.campl_lex.specs.declared.fault.LexFault.{LexFault}
 use Rattle.campl_lex.specs.declared.fault.LexFault.TheVariants.{BadCharacter, OpenString, BadEscape, NumberTooLarge, NameTooLong, Tab, TextTooLong}
 use Rattle.campl_lex.specs.Spot.{past}
 use Rattle.campl_lex.specs.Spelling.{begins_name, goes_on, number_of, is_single, is_double, is_triple, name_kind, symbol_kind}
-use Rattle.campl_lex.specs.Literal.{short_escape, is_hex_digit, hex_value}
+use Rattle.campl_lex.specs.Meaning.{escape}
 use Rattle.campl_lex.specs.Tokens.{begins_comment, is_white, is_quote}
 use Rattle.campl_lex.specs.Layout.{adds}
 
@@ -25,18 +24,13 @@ use Rattle.campl_lex.specs.Layout.{adds}
 abbrev pub peek : ℕ → List ℕ → ℕ
 peek i cs = slice_index_or cs i 0
 
--- the length of an escape in braces with n digits, behind its `{`; 0 where it is none
-abbrev pub braced_len : ℕ → List ℕ → ℕ
-braced_len n cs = if nat_le 1 n && nat_le n 6 && peek n cs == 125 && scalar (hex_value (take n cs)) then n + 3 else 0
-
-abbrev pub unicode_len : List ℕ → ℕ
-unicode_len [] = 0
-unicode_len (c ∷ cs) = if c == 123 then braced_len (prefix_len is_hex_digit cs) cs else 0
+abbrev pub length_of : Option (ℕ × ℕ) → ℕ
+length_of None = 0
+length_of (Some e) = e.1
 
 -- the length of the escape behind a backslash; 0 where it is none
 abbrev pub escape_len : List ℕ → ℕ
-escape_len [] = 0
-escape_len (c ∷ cs) = if is_some (short_escape c) then 1 else (if c == 117 then unicode_len cs else 0)
+escape_len cs = length_of (escape cs)
 
 -- why a literal stops before these characters, if it does
 abbrev pub stop_of : ℕ → List ℕ → Option Stop

@@ -8,35 +8,35 @@ use Rattle.campl_lex.specs.Literal.{short_escape, is_hex_digit, hex_value}
 use lib.Utf8.{scalar}
 use Rattle.campl_gram.specs.Grammar.{Terminals}
 use Rattle.campl_gram.specs.OneKind.{by_kind}
-use Rattle.campl_grammar.specs.contracts.kind.Kind.{the_type}
-use Rattle.campl_grammar.specs.declared.kind.Kind.{Kind}
+use Rattle.campl_lex.specs.contracts.token.TokenKind.{the_type}
+use Rattle.campl_lex.specs.declared.token.TokenKind.{TokenKind}
 
--- a word: its kind, the bytes of its text, and the place of its first character
-pub record Word : Type 0 where
-  pub kind : Kind
+-- a terminal: its kind, the bytes of its text, and the place of its first character
+pub record Terminal : Type 0 where
+  pub kind : TokenKind
   pub text : List ℕ
   pub place : Place
 
 -- kinds are the same
-unfoldable pub same : Kind → Kind → Bool
+unfoldable pub same : TokenKind → TokenKind → Bool
 same = sameb the_type
 
--- the place of no words
+-- the place of no terminals
 abbrev pub nowhere : Place
 nowhere = record { line = 0; column = 0 }
 
--- of which kind a word is, and where it stands
-unfoldable pub terminals : Terminals Word Kind Place
+-- of which kind a terminal is, and where it stands
+unfoldable pub terminals : Terminals Terminal TokenKind Place
 terminals = by_kind same (λ w. w.kind) (λ w. w.place) nowhere
 
--- ---- what a word's text says
+-- ---- what a terminal's text says
 
--- the name that a word spells
-abbrev pub name_of : Word → List ℕ
+-- the name that a terminal spells
+abbrev pub name_of : Terminal → List ℕ
 name_of w = chars w.text
 
 -- the same with its place
-abbrev pub ident_of : Word → Ident
+abbrev pub ident_of : Terminal → Ident
 ident_of w = record { place = w.place; name = name_of w }
 
 -- the greatest number
@@ -47,7 +47,7 @@ greatest = 9223372036854775807
 unfoldable pub digits : List ℕ → ℕ
 digits w = fold (λ n d. min (n * 10 + (d - 48)) greatest) 0 w
 
-abbrev pub number_of : Word → ℤ
+abbrev pub number_of : Terminal → ℤ
 number_of w = pos (digits w.text)
 
 -- an escape of n digits in braces, told from behind its `{`: its character, and how many characters spell it behind the backslash (125 is `}`)
@@ -85,12 +85,12 @@ abbrev pub between : List ℕ → List ℕ
 between cs = take (length cs - 2) (drop 1 cs)
 
 -- the characters of a text, and the one of a character literal
-unfoldable pub text_of : Word → List ℕ
+unfoldable pub text_of : Terminal → List ℕ
 text_of w = unescaped 0 (between (chars w.text))
 
 abbrev pub first_or_zero : List ℕ → ℕ
 first_or_zero [] = 0
 first_or_zero (c ∷ cs) = c
 
-unfoldable pub character_of : Word → ℕ
+unfoldable pub character_of : Terminal → ℕ
 character_of w = first_or_zero (text_of w)
