@@ -8,7 +8,8 @@ use Rattle.campl_gram.proofs.Exact as exact
 use Rattle.campl_gram.proofs.Fuel.{need}
 use Rattle.campl_gram.proofs.Lists.{leaves-found, leaves-token}
 use Rattle.campl_lex.specs.declared.token.TokenKind.{TokenKind}
-use Rattle.campl_grammar.specs.Terminal.{Terminal, same, terminals}
+use Rattle.campl_lex.specs.Kinds.{same}
+use Rattle.campl_grammar.specs.Terminal.{Terminal, terminals}
 use Rattle.campl_grammar.specs.Names.{Name, program}
 use Rattle.campl_grammar.specs.Tables.{tables}
 use Rattle.campl_grammar.specs.Rules.{Value, rule, limit, IsProgram, read, piece}

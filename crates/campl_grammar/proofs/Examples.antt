@@ -14,7 +14,8 @@ use Rattle.campl_gram.specs.Reading as reading
 use Rattle.campl_gram.specs.Verdicts.{finish}
 use Rattle.campl_lex.specs.declared.token.TokenKind.{TokenKind}
 use Rattle.campl_lex.specs.declared.token.TokenKind.TheVariants as k
-use Rattle.campl_grammar.specs.Terminal.{Terminal, terminals, same, digits, text_of}
+use Rattle.campl_lex.specs.Kinds.{same}
+use Rattle.campl_grammar.specs.Terminal.{Terminal, terminals, digits, text_of}
 use Rattle.campl_grammar.specs.Names.{Name, program, expr}
 use Rattle.campl_grammar.specs.Tables.{tables}
 use Rattle.campl_grammar.specs.Rules.{Value, rule, read}

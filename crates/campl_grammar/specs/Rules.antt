@@ -395,9 +395,9 @@ rule unary = alt (seq t.negate_of (tok k.Minus) (deeper (nt unary))) (nt atom)
 --      | Upper [ "(" expr { "," expr } ")" ] | "[" [ expr { "," expr } ] "]" | "(" expr [ "," expr ] ")"
 rule atom = alt (nt simple) (alt (nt variable) (alt (nt code) (alt (nt character) (alt (nt constructor) (alt (nt listed) (nt grouped))))))
 rule simple =
-    alt (t.number_of_word <$> tok k.Number)
-    (alt (t.character_of_word <$> tok k.Character)
-    (alt (t.text_of_word <$> tok k.Text)
+    alt (t.number_expr_of <$> tok k.Number)
+    (alt (t.character_expr_of <$> tok k.Character)
+    (alt (t.text_expr_of <$> tok k.Text)
     (alt (t.true_of <$> tok k.True)
     (t.false_of <$> tok k.False))))
 rule variable = into (tok k.Lower) (alt (t.call_of <$> in_parens some_exprs) (pure t.variable_expr_of))

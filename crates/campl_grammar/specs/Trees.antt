@@ -237,14 +237,14 @@ terms_of y ts op = (op, y) ∷ ts
 abbrev pub negate_of : Terminal → Expr → Expr
 negate_of w x = e.Negate w.place x
 
-abbrev pub number_of_word : Terminal → Expr
-number_of_word w = e.Number w.place (number_of w)
+abbrev pub number_expr_of : Terminal → Expr
+number_expr_of w = e.Number w.place (number_of w)
 
-abbrev pub character_of_word : Terminal → Expr
-character_of_word w = e.Character w.place (character_of w)
+abbrev pub character_expr_of : Terminal → Expr
+character_expr_of w = e.Character w.place (character_of w)
 
-abbrev pub text_of_word : Terminal → Expr
-text_of_word w = e.Text w.place (text_of w)
+abbrev pub text_expr_of : Terminal → Expr
+text_expr_of w = e.Text w.place (text_of w)
 
 abbrev pub true_of : Terminal → Expr
 true_of w = e.True w.place

@@ -8,8 +8,6 @@
 //! ```
 #![tactic(auto)]
 
-mod kind;
 mod laws;
 
-pub use kind::TokenKind;
 pub use laws::one_tree;

@@ -12,8 +12,9 @@ use Rattle.campl_lex.specs.declared.fault.LexFault.{LexFault}
 use Rattle.campl_lex.specs.declared.fault.LexFault.TheVariants.{BadColumn}
 use Rattle.campl_lex.specs.declared.stack.Enclosure.{Enclosure}
 use Rattle.campl_lex.specs.declared.stack.Enclosure.TheVariants.{Block, Bracket}
+use Rattle.campl_lex.specs.Kinds.{same}
 use Rattle.campl_lex.specs.Enclosure.{is_block_from, has_bracket, nearest, block_count}
-use Rattle.campl_lex.specs.Layout.{Put, onto, and_then, block_opened, bracket_closed, separated, aligned, closing, before, behind, follow, adds, laid, laid_out, first_brace, inserted, IsWritten, is_opening, is_closing, is_separator, is_inserted, opens_block, is_closing_bracket, is_opening_bracket, opens_last, level, is_enclosed, IsWhole, Answers}
+use Rattle.campl_lex.specs.Layout.{Put, onto, and_then, block_opened, bracket_closed, separated, aligned, closing, before, behind, follow, adds, laid, laid_out, first_brace, inserted, IsWritten, is_opening, is_closing, is_inserted, opens_block, is_closing_bracket, is_opening_bracket, opens_last, level, is_enclosed, IsWhole, Answers}
 
 -- the source's own block is at the bottom
 abbrev pub Grounded : List Enclosure → Type 0
@@ -64,13 +65,14 @@ closed_count c (Block d ∷ stack) = by (nat_le c d) (closed_count c stack)
 
 -- so many `}` close so many braces
 closes : (n m at : ℕ) (p : Place) (rest : List Token) → is_enclosed (n + m) (replicate n (inserted kind.RightBrace at p) ++ rest) ≡ is_enclosed m rest
+unfolding same
 closes zero m at p rest = ap (λ k. is_enclosed k rest) (zero-add m)
 closes (suc n) m at p rest =
     ap (λ k. is_enclosed k (inserted kind.RightBrace at p ∷ (replicate n (inserted kind.RightBrace at p) ++ rest))) (let e : suc n + m ≡ suc (n + m) = omega arith in e)
     ∙ closes n m at p rest
 
 level_kept : (k : TokenKind) (n : ℕ) → is_inserted k ≡ false → level k n ≡ suc n
-level_kept k n h = by (is_opening k) (is_closing k) (is_separator k) h
+level_kept k n h = by (is_opening k) (is_closing k) (same k kind.Semicolon) h
   where
     by : (a b c : Bool) → (a || b || c) ≡ false → cond a (suc (suc n)) (cond b n (suc n)) ≡ suc n
     by true b c h = by_true b c h
@@ -97,6 +99,7 @@ good_more stack k m (Ok (put, after)) l (g, e, s) = (g, e, omega arith)
 good_more stack k m (Err fault) l h = tt
 
 good_opened : (t : Token) (stack : List Enclosure) → Grounded stack → Good stack 2 (block_opened t stack)
+unfolding same
 good_opened t stack (upper, e) = by (nat_lt (nearest stack) t.place.column)
   where
     by : (b : Bool) → Good stack 2 (cond b (Ok (inserted kind.LeftBrace t.start t.place ∷ [], Block t.place.column ∷ stack)) (Err (BadColumn t.place)))
@@ -132,6 +135,7 @@ good_bracket t stack (upper, e) h = subst (λ s. has_bracket s ≡ true → Good
 good_separated : (t : Token) (stack : List Enclosure) (closed : List Token) (s : List Enclosure) → Grounded s
     → ((rest : List Token) → is_enclosed (block_count stack) (closed ++ rest) ≡ is_enclosed (block_count s) rest)
     → length closed + block_count s ≤ block_count stack → Good stack 1 (separated t closed s)
+unfolding same
 good_separated t stack closed [] g e l = (g, e, omega arith)
 good_separated t stack closed (Bracket c ∷ s) g e l = (g, e, omega arith)
 good_separated t stack closed (Block c ∷ s) g e l = by (eqb c t.place.column) (eqb (length closed) 0)
@@ -217,6 +221,7 @@ grounded_some : (stack : List Enclosure) → Grounded stack → 0 < block_count 
 grounded_some stack (upper, e) = let h : block_count stack ≡ suc (block_count upper) = ap block_count e ∙ ground_count upper in omega arith
 
 closed_end : (n at : ℕ) (p : Place) → is_enclosed n (replicate n (inserted kind.RightBrace at p)) ≡ true
+unfolding same
 closed_end zero at p = refl
 closed_end (suc n) at p = closed_end n at p
 
@@ -264,6 +269,7 @@ first_opens text end (t ∷ ts) = refl
 -- a layout's braces are balanced, and it is short
 pub laid_whole : (text : List ℕ) (end : Place) (tokens : List Token) → All (IsWritten text) tokens
     → IfOk (laid_out text end tokens) (λ ts. IsWhole ts × (length ts ≤ 4 * length tokens + 2))
+unfolding same
 laid_whole text end tokens w = by (laid text end (Block 1 ∷ []) None tokens) (laid_closed text end (Block 1 ∷ []) None tokens ([], refl) w)
   where
     by : (r : Result (List Token) LexFault) → Closed 1 (length tokens) r → IfOk (adds (first_brace text end tokens ∷ []) r) (λ ts. IsWhole ts × (length ts ≤ 4 * length tokens + 2))

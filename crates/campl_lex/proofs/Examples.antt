@@ -7,6 +7,7 @@ use Rattle.campl_lex.specs.declared.literal.Body.{Body}
 use Rattle.campl_lex.specs.declared.literal.Stop.TheVariants as stop
 use Rattle.campl_lex.specs.Spot.{place_past, first_place, bytes}
 use Rattle.campl_lex.specs.Spelling.{number_of, reserved, name_kind, symbol_kind, kind_of}
+use Rattle.campl_lex.specs.Kinds.{same}
 use Rattle.campl_lex.specs.Literal.{hex_value}
 use Rattle.campl_lex.specs.Meaning.{escape, unescaped}
 use Rattle.campl_lex.specs.Tokens.{begins_comment, is_white}
@@ -104,4 +105,5 @@ unfolding laid
 two_lines = refl
 
 braces : is_enclosed 1 (inserted kind.LeftBrace 0 first_place ∷ inserted kind.RightBrace 0 first_place ∷ inserted kind.RightBrace 0 first_place ∷ []) ≡ true
+unfolding same
 braces = refl

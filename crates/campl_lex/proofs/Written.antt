@@ -13,6 +13,7 @@ use Rattle.campl_lex.specs.declared.spot.Spot.{Spot}
 use Rattle.campl_lex.specs.declared.fault.LexFault.{LexFault}
 use Rattle.campl_lex.specs.Spot.{place_past, after, bytes}
 use Rattle.campl_lex.specs.Spelling.{begins_name, declaration_words, action_words, expression_words, type_words, singles, doubles, triples, kind_in, or_else, reserved, symbol, name_kind, symbol_kind, kind_of}
+use Rattle.campl_lex.specs.Kinds.{same}
 use Rattle.campl_lex.specs.Tokens.{Lexes, token}
 use Rattle.campl_lex.specs.Tokens as says
 use Rattle.campl_lex.specs.Layout.{adds, IsWritten, is_inserted}
@@ -40,7 +41,7 @@ kept_or (Some kind) last h k = h
 kept_or None last h k = k
 
 reserved_kept : (w : List ℕ) → IfSome (reserved w) (λ kind. is_inserted kind ≡ false)
-unfolding reserved
+unfolding reserved same
 reserved_kept w =
     kept_else (kind_in declaration_words w) (or_else (kind_in action_words w) (or_else (kind_in expression_words w) (kind_in type_words w)))
     (kept_in declaration_words w refl (kind_in declaration_words w) refl)
@@ -49,6 +50,7 @@ reserved_kept w =
     (kept_in type_words w refl (kind_in type_words w) refl)))
 
 name_kept : (w : List ℕ) → is_inserted (name_kind w) ≡ false
+unfolding same
 name_kept [] = refl
 name_kept (c ∷ w) = by (bytes_eq (c ∷ w) (codes "_"))
   where
@@ -61,6 +63,7 @@ name_kept (c ∷ w) = by (bytes_eq (c ∷ w) (codes "_"))
     by false = kept_or (reserved (c ∷ w)) (cond (is_ascii_uppercase c) kind.Upper kind.Lower) (reserved_kept (c ∷ w)) (letter (is_ascii_uppercase c))
 
 symbol_kept : (w : List ℕ) → IfSome (symbol w) (λ kind. is_inserted kind ≡ false)
+unfolding same
 symbol_kept [] = tt
 symbol_kept (a ∷ []) = kept_in singles (a ∷ []) refl (kind_in singles (a ∷ [])) refl
 symbol_kept (a ∷ b ∷ []) = kept_in doubles (a ∷ b ∷ []) refl (kind_in doubles (a ∷ b ∷ [])) refl
@@ -68,6 +71,7 @@ symbol_kept (a ∷ b ∷ c ∷ []) = kept_in triples (a ∷ b ∷ c ∷ []) refl
 symbol_kept (a ∷ b ∷ c ∷ d ∷ w) = tt
 
 kept : (w : List ℕ) → is_inserted (kind_of w) ≡ false
+unfolding same
 kept [] = refl
 kept (c ∷ w) = by (eqb c 34) (eqb c 39) (is_ascii_digit c) (begins_name c)
   where

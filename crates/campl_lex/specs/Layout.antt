@@ -9,27 +9,22 @@ use Rattle.campl_lex.specs.declared.fault.LexFault.{LexFault}
 use Rattle.campl_lex.specs.declared.fault.LexFault.TheVariants.{BadColumn, OutOfMemory}
 use Rattle.campl_lex.specs.declared.stack.Enclosure.{Enclosure}
 use Rattle.campl_lex.specs.declared.stack.Enclosure.TheVariants.{Block, Bracket}
+use Rattle.campl_lex.specs.Kinds.{same}
 use Rattle.campl_lex.specs.Enclosure.{block_count, is_block_from, has_bracket, nearest}
 
 -- a token's lexeme: the source's bytes from its start to before its stop
 abbrev pub lexeme_of : List ℕ → Token → List ℕ
 lexeme_of text t = slice_range text t.start t.stop
 
--- the braces that layout inserts, and the semicolon
+-- the braces that layout inserts, and all kinds that it does
 abbrev pub is_opening : TokenKind → Bool
-is_opening k.LeftBrace = true
-is_opening kind = false
+is_opening kind = same kind k.LeftBrace
 
 abbrev pub is_closing : TokenKind → Bool
-is_closing k.RightBrace = true
-is_closing kind = false
-
-abbrev pub is_separator : TokenKind → Bool
-is_separator k.Semicolon = true
-is_separator kind = false
+is_closing kind = same kind k.RightBrace
 
 abbrev pub is_inserted : TokenKind → Bool
-is_inserted kind = is_opening kind || is_closing kind || is_separator kind
+is_inserted kind = is_opening kind || is_closing kind || same kind k.Semicolon
 
 -- the words behind which a block begins
 abbrev pub opens_block : TokenKind → Bool

@@ -1,4 +1,5 @@
 pub mod Enclosure
+pub mod Kinds
 pub mod Layout
 pub mod Limits
 pub mod Literal
