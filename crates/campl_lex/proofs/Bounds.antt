@@ -1,5 +1,6 @@
 -- A piece has some characters, and no more than the text.
-use Rattle.std.proofs.Common.{◌≡◌, ℕ, zero, suc, ◌+◌, ◌<◌, ◌≤◌, Bool, true, false, cond, eqb, nat_lt, nat_le, not, ◌==◌, List, [], ◌∷◌, length, take, Result, Ok, Err, IfOk, Some, refl, sym, subst, ap, ◌∙◌, arith, length-take, length-append}
+use Rattle.std.proofs.Common.{◌≡◌, ℕ, zero, suc, ◌+◌, ◌<◌, ◌≤◌, Bool, true, false, cond, eqb, nat_lt, nat_le, not, ◌==◌, List, [], ◌∷◌, length, take}
+use Rattle.std.proofs.Common.{Result, Ok, Err, IfOk, Some, refl, sym, subst, ap, ◌∙◌, arith, length-take, length-append}
 use Rattle.std.specs.List.{prefix_len}
 use Rattle.std.specs.Char.{is_ascii_digit}
 use Rattle.std.proofs.lemmas.Bool.Decides.{nat_tests}

@@ -1,5 +1,7 @@
 -- Layout's braces are balanced, and it puts few tokens.
-use Rattle.std.proofs.Common.{◌≡◌, ℕ, zero, suc, ◌+◌, ◌*◌, ◌<◌, ◌≤◌, Bool, true, false, cond, ◌&&◌, ◌||◌, eqb, nat_lt, nat_le, List, [], ◌∷◌, ◌++◌, length, drop, replicate, Option, Some, None, Result, Ok, Err, IfOk, refl, sym, ap, ◌∙◌, subst, arith, one-add, zero-add, length-append, append_assoc}
+use Rattle.std.proofs.Common.{◌≡◌, ℕ, zero, suc, ◌+◌, ◌*◌, ◌<◌, ◌≤◌, Bool, true, false, cond, ◌&&◌, ◌||◌, eqb, nat_lt, nat_le, List, [], ◌∷◌, ◌++◌}
+use Rattle.std.proofs.Common.{length, drop, replicate, Option, Some, None, Result, Ok, Err, IfOk, refl, sym, ap, ◌∙◌, subst, arith, one-add, zero-add}
+use Rattle.std.proofs.Common.{length-append, append_assoc}
 use Rattle.std.specs.List.{prefix_len, All}
 use Rattle.std.proofs.lemmas.List.{length-replicate}
 use Rattle.std.specs.Prelude.{Vec}
@@ -14,7 +16,9 @@ use Rattle.campl_lex.specs.declared.stack.Enclosure.{Enclosure}
 use Rattle.campl_lex.specs.declared.stack.Enclosure.TheVariants.{Block, Bracket}
 use Rattle.campl_lex.specs.Kinds.{same}
 use Rattle.campl_lex.specs.Enclosure.{is_block_from, has_bracket, nearest, block_count}
-use Rattle.campl_lex.specs.Layout.{Put, onto, and_then, block_opened, bracket_closed, separated, aligned, closing, before, behind, follow, adds, laid, laid_out, first_brace, inserted, IsWritten, is_opening, is_closing, is_inserted, opens_block, is_closing_bracket, is_opening_bracket, opens_last, level, is_enclosed, IsWhole, Answers}
+use Rattle.campl_lex.specs.Layout.{Put, onto, and_then, block_opened, bracket_closed, separated, aligned, closing, before, behind, follow, adds, laid}
+use Rattle.campl_lex.specs.Layout.{laid_out, first_brace, inserted, IsWritten, is_opening, is_closing, is_inserted, opens_block, is_closing_bracket}
+use Rattle.campl_lex.specs.Layout.{is_opening_bracket, opens_last, level, is_enclosed, IsWhole, Answers}
 
 -- the source's own block is at the bottom
 abbrev pub Grounded : List Enclosure → Type 0

@@ -1,5 +1,6 @@
 -- What the relation says of the front of a text is what the function says.
-use Rattle.std.proofs.Common.{◌≡◌, ℕ, zero, suc, ◌+◌, ◌≤◌, Bool, true, false, cond, not, ◌&&◌, eqb, nat_lt, nat_le, List, [], ◌∷◌, ◌++◌, length, take, drop, Some, Ok, Err, refl, sym, ap, ◌∙◌, subst, arith, append_assoc}
+use Rattle.std.proofs.Common.{◌≡◌, ℕ, zero, suc, ◌+◌, ◌≤◌, Bool, true, false, cond, not, ◌&&◌, eqb, nat_lt, nat_le, List, [], ◌∷◌, ◌++◌, length, take}
+use Rattle.std.proofs.Common.{drop, Some, Ok, Err, refl, sym, ap, ◌∙◌, subst, arith, append_assoc}
 use Rattle.std.specs.List.{prefix_len, list_all}
 use Rattle.std.specs.Char.{is_ascii_digit}
 use Rattle.std.proofs.lemmas.Bool.Decides.{nat_tests}
@@ -13,12 +14,14 @@ use Rattle.campl_lex.specs.declared.fault.LexFault.{LexFault}
 use Rattle.campl_lex.specs.declared.fault.LexFault.TheVariants.{BadCharacter, OpenString, BadEscape, NumberTooLarge, NameTooLong, Tab, TextTooLong}
 use Rattle.campl_lex.specs.Spelling.{begins_name, goes_on, number_of, name_kind, symbol_kind, kind_of}
 use Rattle.campl_lex.specs.Literal.{Spells}
-use Rattle.campl_lex.specs.Tokens.{is_white, begins_comment, begins_with, ends_line, is_quote, IsBlank, IsSpelling, IsLongest, IsWithinLimits, IsToken, Offends}
+use Rattle.campl_lex.specs.Tokens.{is_white, begins_comment, begins_with, ends_line, is_quote, IsBlank, IsSpelling, IsLongest, IsWithinLimits}
+use Rattle.campl_lex.specs.Tokens.{IsToken, Offends}
 use Rattle.campl_lex.specs.Tokens as says
 use Rattle.campl_lex.specs.Reading.{piece, blank, name_piece, number_piece, literal, closed_literal, symbol_len, escape_len}
 use Rattle.campl_lex.proofs.Runs.{run_passes, run_longest, run_before, run_whole}
 use Rattle.campl_lex.proofs.Classes.{no_name, digit_no_name}
-use Rattle.campl_lex.proofs.Families.{name_first, number_first, quote_no_name, some_spelled, spelled_name, spelled_number, spelled_symbol, spelled_literal, spelled_no_blank}
+use Rattle.campl_lex.proofs.Families.{name_first, number_first, quote_no_name, some_spelled, spelled_name, spelled_number, spelled_symbol}
+use Rattle.campl_lex.proofs.Families.{spelled_literal, spelled_no_blank}
 use Rattle.campl_lex.proofs.Symbols.{symbol_longest, symbol_found}
 use Rattle.campl_lex.proofs.Pieces.{piece_tab, piece_white, piece_comment, piece_name, piece_number, piece_literal, piece_symbol}
 use Rattle.campl_lex.proofs.Escapes.{escape_found}

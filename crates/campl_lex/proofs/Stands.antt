@@ -1,5 +1,6 @@
 -- What stands at the front of a text is what the relation says of it.
-use Rattle.std.proofs.Common.{◌≡◌, ℕ, zero, suc, ◌<◌, ◌≤◌, Bool, true, false, cond, ◌&&◌, ◌||◌, ◌==◌, eqb, nat_lt, nat_le, List, [], ◌∷◌, ◌++◌, length, take, drop, Option, Some, None, Result, Ok, Err, refl, sym, ap, ◌∙◌, subst, arith}
+use Rattle.std.proofs.Common.{◌≡◌, ℕ, zero, suc, ◌<◌, ◌≤◌, Bool, true, false, cond, ◌&&◌, ◌||◌, ◌==◌, eqb, nat_lt, nat_le, List, [], ◌∷◌, ◌++◌}
+use Rattle.std.proofs.Common.{length, take, drop, Option, Some, None, Result, Ok, Err, refl, sym, ap, ◌∙◌, subst, arith}
 use Rattle.std.specs.List.{prefix_len, list_all}
 use Rattle.std.specs.Char.{is_ascii_digit}
 use Rattle.std.proofs.lemmas.Bool.Decides.{nat_tests}
@@ -13,7 +14,8 @@ use Rattle.campl_lex.specs.declared.piece.Piece.{Piece}
 use Rattle.campl_lex.specs.declared.fault.LexFault.{LexFault}
 use Rattle.campl_lex.specs.declared.fault.LexFault.TheVariants.{BadCharacter, NumberTooLarge, NameTooLong}
 use Rattle.campl_lex.specs.Spelling.{begins_name, goes_on, number_of, is_symbol, name_kind, symbol_kind, kind_of}
-use Rattle.campl_lex.specs.Tokens.{is_white, begins_comment, begins_with, ends_line, is_quote, IsBlank, IsSpelling, IsLongest, IsWithinLimits, IsToken, Offends}
+use Rattle.campl_lex.specs.Tokens.{is_white, begins_comment, begins_with, ends_line, is_quote, IsBlank, IsSpelling, IsLongest, IsWithinLimits}
+use Rattle.campl_lex.specs.Tokens.{IsToken, Offends}
 use Rattle.campl_lex.specs.Tokens as says
 use Rattle.campl_lex.specs.Reading.{name_piece, number_piece, symbol_piece, symbol_len}
 use Rattle.campl_lex.proofs.Runs.{run_longest}

@@ -1,5 +1,6 @@
 -- The tokens that are read lie in the text.
-use Rattle.std.proofs.Common.{◌≡◌, ℕ, zero, suc, ◌+◌, ◌<◌, ◌≤◌, Bool, true, false, cond, not, ◌&&◌, eqb, List, [], ◌∷◌, ◌++◌, length, Option, Some, None, IfSome, Result, Ok, Err, refl, sym, ap, ◌∙◌, subst, arith}
+use Rattle.std.proofs.Common.{◌≡◌, ℕ, zero, suc, ◌+◌, ◌<◌, ◌≤◌, Bool, true, false, cond, not, ◌&&◌, eqb, List, [], ◌∷◌, ◌++◌, length, Option, Some}
+use Rattle.std.proofs.Common.{None, IfSome, Result, Ok, Err, refl, sym, ap, ◌∙◌, subst, arith}
 use Rattle.std.specs.List.{All, list_all}
 use Rattle.std.specs.Option.{unwrap_or}
 use Rattle.std.specs.Char.{is_ascii_digit, is_ascii_uppercase}
@@ -12,7 +13,8 @@ use Rattle.campl_lex.specs.declared.token.TokenKind.TheVariants as kind
 use Rattle.campl_lex.specs.declared.spot.Spot.{Spot}
 use Rattle.campl_lex.specs.declared.fault.LexFault.{LexFault}
 use Rattle.campl_lex.specs.Spot.{place_past, after, bytes}
-use Rattle.campl_lex.specs.Spelling.{begins_name, declaration_words, action_words, expression_words, type_words, singles, doubles, triples, kind_in, or_else, reserved, symbol, name_kind, symbol_kind, kind_of}
+use Rattle.campl_lex.specs.Spelling.{begins_name, declaration_words, action_words, expression_words, type_words, singles, doubles, triples, kind_in}
+use Rattle.campl_lex.specs.Spelling.{or_else, reserved, symbol, name_kind, symbol_kind, kind_of}
 use Rattle.campl_lex.specs.Kinds.{same}
 use Rattle.campl_lex.specs.Tokens.{Lexes, token}
 use Rattle.campl_lex.specs.Tokens as says

@@ -1,5 +1,6 @@
 -- Where layout puts `{`, `}` and `;`, by its rules: a function from tokens and the end's place to a list of tokens or the first bad column.
-use Rattle.std.specs.Prelude.{◌≡◌, ℕ, zero, suc, ◌≤◌, Bool, true, false, ◌&&◌, ◌||◌, ◌==◌, nat_lt, ◌<◌, if◌then◌else◌, List, [], ◌∷◌, ◌++◌, length, drop, replicate, slice_range, Option, Some, None, Result, Ok, Err, MatchResult, ◌≢◌, Vec}
+use Rattle.std.specs.Prelude.{◌≡◌, ℕ, zero, suc, ◌≤◌, Bool, true, false, ◌&&◌, ◌||◌, ◌==◌, nat_lt, ◌<◌, if◌then◌else◌, List, [], ◌∷◌, ◌++◌, length}
+use Rattle.std.specs.Prelude.{drop, replicate, slice_range, Option, Some, None, Result, Ok, Err, MatchResult, ◌≢◌, Vec}
 use Rattle.std.specs.List.{prefix_len}
 use Rattle.campl_tree.specs.declared.place.Place.{Place}
 use Rattle.campl_lex.specs.declared.token.Token.{Token}

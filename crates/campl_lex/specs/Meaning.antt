@@ -1,5 +1,6 @@
 -- What the characters of a literal stand for, as functions. A character is its code: 92 is \, 117 u, 123 {, 125 }.
-use Rattle.std.specs.Prelude.{◌≡◌, ℕ, zero, suc, ◌+◌, ◌-◌, ◌==◌, ◌&&◌, nat_le, if◌then◌else◌, List, [], ◌∷◌, length, take, drop, slice_index_or, Option, Some, None, MatchOption}
+use Rattle.std.specs.Prelude.{◌≡◌, ℕ, zero, suc, ◌+◌, ◌-◌, ◌==◌, ◌&&◌, nat_le, if◌then◌else◌, List, [], ◌∷◌, length, take, drop, slice_index_or}
+use Rattle.std.specs.Prelude.{Option, Some, None, MatchOption}
 use Rattle.std.specs.List.{prefix_len}
 use lib.Utf8.{scalar}
 use Rattle.campl_lex.specs.Literal.{short_escape, is_hex_digit, hex_value}

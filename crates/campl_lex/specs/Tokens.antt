@@ -1,6 +1,7 @@
 -- The tokens of a text, as a relation between the whole text and a list of tokens or a first fault.
 -- A character is its code: 9 is Tab, 10 LF, 13 CR, 32 a space, 34 ", 39 ', 45 -.
-use Rattle.std.specs.Prelude.{◌≡◌, ◌≢◌, ℕ, ◌<◌, ◌≤◌, Bool, true, false, ◌==◌, not, ◌&&◌, ◌||◌, List, [], ◌∷◌, ◌++◌, length, Result, Ok, Err, MatchResult, Vec}
+use Rattle.std.specs.Prelude.{◌≡◌, ◌≢◌, ℕ, ◌<◌, ◌≤◌, Bool, true, false, ◌==◌, not, ◌&&◌, ◌||◌, List, [], ◌∷◌, ◌++◌, length, Result, Ok, Err}
+use Rattle.std.specs.Prelude.{MatchResult, Vec}
 use Rattle.std.specs.List.{list_all}
 use Rattle.std.specs.Str.{encode_utf8_all}
 use Rattle.campl_tree.specs.declared.place.Place.{Place}
@@ -8,7 +9,8 @@ use Rattle.campl_lex.specs.Limits.{longest_name, longest_text, greatest_number}
 use Rattle.campl_lex.specs.declared.token.Token.{Token}
 use Rattle.campl_lex.specs.declared.spot.Spot.{Spot}
 use Rattle.campl_lex.specs.declared.fault.LexFault.{LexFault}
-use Rattle.campl_lex.specs.declared.fault.LexFault.TheVariants.{BadCharacter, OpenString, BadEscape, NumberTooLarge, NameTooLong, Tab, TextTooLong, OutOfMemory}
+use Rattle.campl_lex.specs.declared.fault.LexFault.TheVariants.{BadCharacter, OpenString, BadEscape, NumberTooLarge, NameTooLong, Tab, TextTooLong}
+use Rattle.campl_lex.specs.declared.fault.LexFault.TheVariants.{OutOfMemory}
 use Rattle.campl_lex.specs.Spot.{place_past, past, first_spot}
 use Rattle.campl_lex.specs.Spelling.{is_name, is_number, number_of, is_symbol, kind_of}
 use Rattle.campl_lex.specs.Literal.{IsEscape, Spells}

@@ -1,5 +1,6 @@
 //! Layout: where `{`, `}` and `;` stand between the tokens of a source.
-ghost use Rattle.std.specs.Prelude.{◌≡◌, ◌≢◌, ℕ, ◌+◌, ◌*◌, ◌≤◌, suc, List, [], ◌∷◌, ◌++◌, Ok, Err, None, MatchResult, IfOk, IfErr, IfSome, OnOk, length, drop, slice_range, replicate};
+ghost use Rattle.std.specs.Prelude.{◌≡◌, ◌≢◌, ℕ, ◌+◌, ◌*◌, ◌≤◌, suc, List, [], ◌∷◌, ◌++◌, Ok, Err, None, MatchResult, IfOk, IfErr, IfSome, OnOk};
+ghost use Rattle.std.specs.Prelude.{length, drop, slice_range, replicate};
 ghost use Rattle.std.specs.List.{All, prefix_len};
 ghost use Rattle.campl_lex.specs.Enclosure.{block_count, is_block_from};
 ghost use Rattle.campl_lex.specs.Layout.{opens_block, is_opening_bracket, is_closing_bracket, IsWritten, inserted, Puts, onto};

@@ -1,5 +1,7 @@
 -- What layout answers on the tokens of a text is cut out of it between characters.
-use Rattle.std.proofs.Common.{◌≡◌, ℕ, suc, ◌+◌, ◌≤◌, Bool, true, false, cond, ◌&&◌, eqb, nat_lt, List, [], ◌∷◌, ◌++◌, length, drop, replicate, Option, Some, None, Result, Ok, Err, IfOk, IsUtf8, IsCharBoundary, chars, encode_utf8_all, refl, sym, ap, ◌∙◌, subst, arith, length-drop, drop-drop}
+use Rattle.std.proofs.Common.{◌≡◌, ℕ, suc, ◌+◌, ◌≤◌, Bool, true, false, cond, ◌&&◌, eqb, nat_lt, List, [], ◌∷◌, ◌++◌, length, drop, replicate, Option}
+use Rattle.std.proofs.Common.{Some, None, Result, Ok, Err, IfOk, IsUtf8, IsCharBoundary, chars, encode_utf8_all, refl, sym, ap, ◌∙◌, subst, arith}
+use Rattle.std.proofs.Common.{length-drop, drop-drop}
 use Rattle.std.specs.List.{All, prefix_len}
 use lib.Utf8.{scalar, scalars}
 use Rattle.std.proofs.lemmas.List.{drop_at}
@@ -18,7 +20,8 @@ use Rattle.campl_lex.specs.Enclosure.{is_block_from, has_bracket, nearest, block
 use Rattle.campl_lex.specs.Spot.{bytes, first_spot}
 use Rattle.campl_lex.specs.Tokens.{Lexes, token}
 use Rattle.campl_lex.specs.Tokens as says
-use Rattle.campl_lex.specs.Layout.{Put, onto, and_then, block_opened, blocks_closed, bracket_closed, separated, aligned, closing, before, behind, follow, adds, laid, laid_out, first_brace, inserted, opens_block, is_closing_bracket, opens_last}
+use Rattle.campl_lex.specs.Layout.{Put, onto, and_then, block_opened, blocks_closed, bracket_closed, separated, aligned, closing, before, behind}
+use Rattle.campl_lex.specs.Layout.{follow, adds, laid, laid_out, first_brace, inserted, opens_block, is_closing_bracket, opens_last}
 use Rattle.campl_lex.proofs.Spots.{bytes-encodes, bytes-append}
 use Rattle.campl_terminals.specs.Terminals.{IsCut}
 

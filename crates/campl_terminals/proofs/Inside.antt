@@ -1,9 +1,11 @@
 -- What stands between the first character of a text and its last.
-use Rattle.std.proofs.Common.{◌≡◌, ℕ, ◌+◌, ◌-◌, ◌<◌, List, [], ◌∷◌, ◌++◌, length, take, drop, Option, Some, None, MatchOption, chars, refl, sym, ap, ◌∙◌, subst, arith, append-nil, length-append}
+use Rattle.std.proofs.Common.{◌≡◌, ℕ, ◌+◌, ◌-◌, ◌<◌, List, [], ◌∷◌, ◌++◌, length, take, drop, Option, Some, None, MatchOption, chars, refl, sym, ap}
+use Rattle.std.proofs.Common.{◌∙◌, subst, arith, append-nil, length-append}
 use Rattle.std.specs.Str.{IsUtf8}
 use lib.Utf8.{encode}
 use Rattle.std.proofs.lemmas.List.{take_at, drop_at}
-use Rattle.std.proofs.lemmas.Str.{chars-nil, chars-append, chars_past_char, length-encode, len_utf8_bounds, IsCharBoundary-from_take, IsUtf8-drop, IsUtf8-past_char}
+use Rattle.std.proofs.lemmas.Str.{chars-nil, chars-append, chars_past_char, length-encode, len_utf8_bounds, IsCharBoundary-from_take, IsUtf8-drop}
+use Rattle.std.proofs.lemmas.Str.{IsUtf8-past_char}
 use Rattle.campl_lex.specs.Meaning.{between}
 
 empty : (xs : List ℕ) → length xs ≡ 0 → xs ≡ []
