@@ -1,5 +1,5 @@
 -- What holds of the grammar since it passes the test.
-use Rattle.std.proofs.Common.{◌≡◌, ℕ, ◌+◌, ◌≤◌, false, List, [], ◌∷◌, length, Ok, subst}
+use Rattle.std.proofs.Common.{◌≡◌, ℕ, ◌+◌, ◌≤◌, List, [], length, Ok}
 use Rattle.campl_tree.specs.declared.decl.Program.{Program}
 use Rattle.campl_gram.specs.Grammar.{Nested, bare, Shallow}
 use Rattle.campl_gram.specs.Reading.{expect}

@@ -1,12 +1,8 @@
 -- The grammar on a few lists of terminals.
-use Rattle.std.proofs.Common.{◌≡◌, refl, ℕ, List, [], ◌∷◌, Some, Ok, Err, codes}
+use Rattle.std.proofs.Common.{◌≡◌, refl, ℕ, List, [], ◌∷◌, Ok, Err, codes}
 use Rattle.std.specs.Prelude.{pos}
-use Rattle.campl_tree.specs.declared.decl.Program.{Program}
-use Rattle.campl_tree.specs.declared.decl.Decl.TheVariants as decl
 use Rattle.campl_tree.specs.declared.expr.Arithmetic.TheVariants as calculating
 use Rattle.campl_tree.specs.declared.expr.Expr.TheVariants as e
-use Rattle.campl_tree.specs.declared.pattern.Pattern.TheVariants as p
-use Rattle.campl_tree.specs.declared.types.SeqType.TheVariants as s
 use Rattle.campl_tree.specs.declared.place.Place.{Place}
 use Rattle.campl_gram.specs.declared.fault.Fault.TheVariants.{Unexpected, TooDeep}
 use Rattle.campl_gram.specs.Reading.{Outcome, read_below}
@@ -15,10 +11,10 @@ use Rattle.campl_gram.specs.Verdicts.{finish}
 use Rattle.campl_lex.specs.declared.token.TokenKind.{TokenKind}
 use Rattle.campl_lex.specs.declared.token.TokenKind.TheVariants as k
 use Rattle.campl_lex.specs.Kinds.{same}
-use Rattle.campl_grammar.specs.Terminal.{Terminal, terminals, digits, text_of}
-use Rattle.campl_grammar.specs.Names.{Name, program, expr}
+use Rattle.campl_grammar.specs.Terminal.{Terminal, terminals, digits}
+use Rattle.campl_grammar.specs.Names.{Name, expr}
 use Rattle.campl_grammar.specs.Tables.{tables}
-use Rattle.campl_grammar.specs.Rules.{Value, rule, read}
+use Rattle.campl_grammar.specs.Rules.{Value, rule}
 
 -- a terminal of a kind and a text in a column of the first line
 abbrev word : TokenKind → List ℕ → ℕ → Terminal

@@ -1,5 +1,5 @@
 -- The grammar of the language. Over each rule stands what it says in the usual notation: [ x ] for x or nothing.
-use Rattle.std.specs.Prelude.{ℕ, Bool, true, false, List, [], ◌∷◌, Option, Some, None, Ok}
+use Rattle.std.specs.Prelude.{ℕ, true, false, List, [], Some, None}
 use Rattle.campl_tree.specs.declared.place.Place.{Place}
 use Rattle.campl_tree.specs.declared.place.Ident.{Ident}
 use Rattle.campl_tree.specs.declared.types.SeqType.{SeqType}

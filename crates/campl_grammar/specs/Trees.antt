@@ -1,5 +1,5 @@
 -- How the trees of terminals are made: the place of the first terminal, and then the parts in order.
-use Rattle.std.specs.Prelude.{ℕ, Bool, true, false, List, [], ◌∷◌, Option, Some, None}
+use Rattle.std.specs.Prelude.{Bool, List, [], ◌∷◌, Option}
 use Rattle.campl_tree.specs.declared.place.Place.{Place}
 use Rattle.campl_tree.specs.declared.place.Ident.{Ident}
 use Rattle.campl_tree.specs.declared.types.SeqType.{SeqType}
@@ -36,9 +36,8 @@ use Rattle.campl_tree.specs.declared.decl.FunctionDecl.{FunctionDecl}
 use Rattle.campl_tree.specs.declared.decl.ProcessRow.{ProcessRow}
 use Rattle.campl_tree.specs.declared.decl.ProcessDecl.{ProcessDecl}
 use Rattle.campl_tree.specs.declared.decl.Decl.{Decl}
-use Rattle.campl_tree.specs.declared.decl.Decl.TheVariants as d
 use Rattle.campl_tree.specs.declared.decl.Program.{Program}
-use Rattle.campl_grammar.specs.Terminal.{Terminal, name_of, ident_of, number_of, text_of, character_of}
+use Rattle.campl_grammar.specs.Terminal.{Terminal, name_of, number_of, text_of, character_of}
 
 -- ---- declarations
 

@@ -1,6 +1,6 @@
 -- How a literal is scanned, one character after another.
 use Rattle.std.proofs.Common.{◌≡◌, ℕ, zero, suc, ◌+◌, ◌<◌, ◌≤◌, Bool, true, false, cond, ◌&&◌, eqb, List, [], ◌∷◌, length, drop, take, get_or, Option}
-use Rattle.std.proofs.Common.{Some, None, is_some, refl, sym, ap, ◌∙◌, arith, zero-add, add_assoc, add-one, one-add, add_comm, nat_le}
+use Rattle.std.proofs.Common.{Some, None, refl, sym, ap, ◌∙◌, arith, zero-add, add_assoc, add-one, one-add, add_comm, nat_le}
 use Rattle.std.specs.List.{prefix_len}
 use Rattle.std.proofs.lemmas.Bool.Decides.{nat_tests}
 use Rattle.std.proofs.lemmas.List.{get_or_past, drop-drop}
@@ -10,7 +10,7 @@ use Rattle.campl_lex.specs.declared.literal.Stop.{Stop}
 use Rattle.campl_lex.specs.declared.literal.Stop.TheVariants as stop
 use Rattle.campl_lex.specs.declared.literal.Body.{Body}
 use Rattle.campl_lex.specs.Literal.{short_escape, is_hex_digit, hex_value}
-use Rattle.campl_lex.specs.Meaning.{braced, unicode, short_or, escape}
+use Rattle.campl_lex.specs.Meaning.{braced, unicode, short_or}
 use Rattle.campl_lex.specs.Reading.{length_of, escape_len, tail_len, item_len, stop_of, stopped, longer, scan}
 
 pub longer_none : (b : Body) → longer 0 0 b ≡ b

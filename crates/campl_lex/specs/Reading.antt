@@ -1,6 +1,6 @@
 -- What stands at the front of a text and which tokens follow, as functions: the way from a text to what `Tokens` says of it.
 use Rattle.std.specs.Prelude.{ℕ, zero, suc, ◌+◌, ◌-◌, not, ◌&&◌, ◌==◌, nat_lt, nat_le, if◌then◌else◌, List, [], ◌∷◌, length, take, Option, Some, None}
-use Rattle.std.specs.Prelude.{is_some, slice_index_or, Result, Ok, Err}
+use Rattle.std.specs.Prelude.{slice_index_or, Result, Ok, Err}
 use Rattle.std.specs.List.{prefix_len}
 use Rattle.std.specs.Char.{is_ascii_digit}
 use Rattle.campl_tree.specs.declared.place.Place.{Place}
