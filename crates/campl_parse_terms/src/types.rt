@@ -20,13 +20,16 @@ use std::alloc::Global;
 fn starts_stype(cursor: &Cursor<'_>) -> bool
     ensures { result ≡ next_in terminals (starts name.stype) cursor.now }
 {
-    cursor.at(TokenKind::IntType)
-        || cursor.at(TokenKind::CharType)
-        || cursor.at(TokenKind::BoolType)
-        || cursor.at(TokenKind::LeftBracket)
-        || cursor.at(TokenKind::Lower)
-        || cursor.at(TokenKind::Upper)
-        || cursor.at(TokenKind::LeftParen)
+    let kinds = [
+        TokenKind::IntType,
+        TokenKind::CharType,
+        TokenKind::BoolType,
+        TokenKind::LeftBracket,
+        TokenKind::Lower,
+        TokenKind::Upper,
+        TokenKind::LeftParen,
+    ];
+    cursor.at_any(&kinds)
 }
 
 /// Types of values with commas between them, or none.
@@ -166,12 +169,15 @@ pub fn type_arguments(
 fn starts_ctype(cursor: &Cursor<'_>) -> bool
     ensures { result ≡ next_in terminals (starts name.ctype) cursor.now }
 {
-    cursor.at(TokenKind::PutType)
-        || cursor.at(TokenKind::GetType)
-        || cursor.at(TokenKind::NegType)
-        || cursor.at(TokenKind::TopBot)
-        || cursor.at(TokenKind::Upper)
-        || cursor.at(TokenKind::LeftParen)
+    let kinds = [
+        TokenKind::PutType,
+        TokenKind::GetType,
+        TokenKind::NegType,
+        TokenKind::TopBot,
+        TokenKind::Upper,
+        TokenKind::LeftParen,
+    ];
+    cursor.at_any(&kinds)
 }
 
 /// Types of channels with commas between them, or none.

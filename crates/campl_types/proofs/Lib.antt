@@ -1,11 +1,24 @@
+pub mod Truth
 pub mod Names
+pub mod Among
+pub mod Listed
 pub mod SameType
 pub mod DeclaredOnce
+pub mod PartsKnown
+pub mod Lowers
+pub mod Bare
+pub mod Deeds
+pub mod EachOnce
+pub mod ChoiceNumbers
 pub mod Turned
+pub mod Compose
+pub mod SameValue
 pub mod Instances
 pub mod Missing
+pub mod TypedRows
 pub mod MissingUnfolds
 mod FreeCommands
-mod FreeParts
+pub mod FreeParts
+pub mod Times
 pub mod FreeNames
 pub mod Forked
