@@ -12,29 +12,29 @@ use Rattle.campl_lex.specs.Spot.{first_spot}
 use Rattle.campl_lex.specs.Tokens.{Lexes}
 use Rattle.campl_lex.specs.Layout.{laid_out}
 use Rattle.campl_lex.proofs.Whole.{one}
-use Rattle.campl_grammar.specs.Word.{Word}
+use Rattle.campl_grammar.specs.Terminal.{Terminal}
 use Rattle.campl_grammar.specs.Rules.{IsProgram, limit}
-use Rattle.campl_words.specs.Words.{words}
+use Rattle.campl_terminals.specs.Terminals.{terminals_of}
 use Rattle.campl_parse.specs.Parsing.{StandsAt}
 use Rattle.campl_cli.specs.declared.fault.FaultKind.{FaultKind}
 use Rattle.campl_cli.specs.declared.fault.FaultKind.TheVariants.{BadCharacter, OpenString, BadEscape, NumberTooLarge, NameTooLong, Tab, BadColumn, TextTooLong, Unexpected, TooDeep, Twice, Unknown, WrongKind, NoRun, RunNotService, TypeArguments}
 use Rattle.campl_cli.specs.Source.{HasTokens, HasLayout, IsTextFault, end_of}
 use Rattle.campl_cli.proofs.OneAnswer.{among, same_tokens, same_layout, no_fault}
 
--- ---- words
+-- ---- terminals
 
 -- of two places in a list, the one, the other, or none is the earlier
-data Compared (a : List Word) (x : Word) (b : List Word) (y : Word) : Type 0 where
+data Compared (a : List Terminal) (x : Terminal) (b : List Terminal) (y : Terminal) : Type 0 where
   same : a ≡ b → x ≡ y → Compared a x b y
-  earlier : (m : List Word) → b ≡ a ++ x ∷ m → Compared a x b y
-  later : (m : List Word) → a ≡ b ++ y ∷ m → Compared a x b y
+  earlier : (m : List Terminal) → b ≡ a ++ x ∷ m → Compared a x b y
+  later : (m : List Terminal) → a ≡ b ++ y ∷ m → Compared a x b y
 
-one_more : (z w : Word) (a b : List Word) (x y : Word) → z ≡ w → Compared a x b y → Compared (z ∷ a) x (w ∷ b) y
+one_more : (z w : Terminal) (a b : List Terminal) (x y : Terminal) → z ≡ w → Compared a x b y → Compared (z ∷ a) x (w ∷ b) y
 one_more z w a b x y e (same p q) = let r : z ∷ a ≡ w ∷ b = cc in same r q
 one_more z w a b x y e (earlier m p) = let r : w ∷ b ≡ z ∷ (a ++ x ∷ m) = cc in earlier m r
 one_more z w a b x y e (later m p) = let r : z ∷ a ≡ w ∷ (b ++ y ∷ m) = cc in later m r
 
-compared : (a : List Word) (x : Word) (p b : List Word) (y : Word) (q : List Word) → a ++ x ∷ p ≡ b ++ y ∷ q → Compared a x b y
+compared : (a : List Terminal) (x : Terminal) (p b : List Terminal) (y : Terminal) (q : List Terminal) → a ++ x ∷ p ≡ b ++ y ∷ q → Compared a x b y
 compared [] x p [] y q e = same refl (cc)
 compared [] x p (w ∷ b) y q e = let r : w ∷ b ≡ x ∷ b = cc in earlier b r
 compared (z ∷ a) x p [] y q e = let r : z ∷ a ≡ y ∷ a = cc in later a r
@@ -42,34 +42,34 @@ compared (z ∷ a) x p (w ∷ b) y q e =
     let rest : a ++ x ∷ p ≡ b ++ y ∷ q = cc in
     one_more z w a b x y (cc) (compared a x p b y q rest)
 
--- no program begins with words behind a fault
-stopped : (a : List Word) (x : Word) (m p : List Word) → Stops limit IsProgram a (x ∷ p) → Begins limit IsProgram (a ++ x ∷ m) → ⊥
+-- no program begins with terminals behind a fault
+stopped : (a : List Terminal) (x : Terminal) (m p : List Terminal) → Stops limit IsProgram a (x ∷ p) → Begins limit IsProgram (a ++ x ∷ m) → ⊥
 stopped a x m p stops (w, more, z, is, shallow, program) =
     stops (w ++ more) (m ++ bare more) z program (bare-append w more ∙ ap (λ l. l ++ bare more) is ∙ append_assoc a (x ∷ m) (bare more))
 
-sunk : (a : List Word) (x : Word) (m p : List Word) → Sinks limit IsProgram a (x ∷ p) → Begins limit IsProgram (a ++ x ∷ m) → ⊥
+sunk : (a : List Terminal) (x : Terminal) (m p : List Terminal) → Sinks limit IsProgram a (x ∷ p) → Begins limit IsProgram (a ++ x ∷ m) → ⊥
 sunk a x m p sinks (w, more, z, is, shallow, program) =
     let s = among w a x m is shallow in
     let split : w ++ more ≡ s.front ++ (x, s.depth) ∷ (s.more ++ more) = ap (λ l. l ++ more) s.split ∙ append_assoc s.front ((x, s.depth) ∷ s.more) more in
-    let deep = sinks.1 s.front s.depth (s.more ++ more) z (subst (λ (l : List (Nested Word)). IsProgram l z) split program) s.is in
+    let deep = sinks.1 s.front s.depth (s.more ++ more) z (subst (λ (l : List (Nested Terminal)). IsProgram l z) split program) s.is in
     let far : nat_le s.depth limit ≡ false = deep.1 in
     let near : nat_le s.depth limit ≡ true = s.within in
     cc
 
 -- where some program goes on, none is stopped
-both : (a : List Word) (x : Word) (p q : List Word) → Stops limit IsProgram a (x ∷ p) → Sinks limit IsProgram a (x ∷ q) → ⊥
+both : (a : List Terminal) (x : Terminal) (p q : List Terminal) → Stops limit IsProgram a (x ∷ p) → Sinks limit IsProgram a (x ∷ q) → ⊥
 both a x p q stops ((w, n, more, z, is, program), deep) =
     stops (w ++ (x, n) ∷ more) (bare more) z program (bare-append w ((x, n) ∷ more) ∙ ap (λ l. l ++ x ∷ bare more) is)
 
 -- two faults that no program goes behind stand at one word
-record Agree (this that : List Word) (one other : Word) (at there : Place) : Type 0 where
+record Agree (this that : List Terminal) (one other : Terminal) (at there : Place) : Type 0 where
   before : this ≡ that
   word : one ≡ other
   place : at ≡ there
 
-agree : (P Q : List Word → List Word → Type 0) → ((a : List Word) (x : Word) (m p : List Word) → P a (x ∷ p) → Begins limit IsProgram (a ++ x ∷ m) → ⊥)
-    → ((a : List Word) (x : Word) (m p : List Word) → Q a (x ∷ p) → Begins limit IsProgram (a ++ x ∷ m) → ⊥)
-    → (these : List Word) (at there : Place) (this : StandsAt P these at) (that : StandsAt Q these there) → Agree this.before that.before this.word that.word at there
+agree : (P Q : List Terminal → List Terminal → Type 0) → ((a : List Terminal) (x : Terminal) (m p : List Terminal) → P a (x ∷ p) → Begins limit IsProgram (a ++ x ∷ m) → ⊥)
+    → ((a : List Terminal) (x : Terminal) (m p : List Terminal) → Q a (x ∷ p) → Begins limit IsProgram (a ++ x ∷ m) → ⊥)
+    → (these : List Terminal) (at there : Place) (this : StandsAt P these at) (that : StandsAt Q these there) → Agree this.before that.before this.word that.word at there
 agree P Q h k these at there this that = by (compared this.before this.word this.behind that.before that.word that.behind (sym this.split ∙ that.split))
   where
     by : Compared this.before this.word that.before that.word → Agree this.before that.before this.word that.word at there
@@ -77,12 +77,12 @@ agree P Q h k these at there this that = by (compared this.before this.word this
     by (earlier m p) = absurd (h this.before this.word m this.behind this.fault (subst (λ l. Begins limit IsProgram l) p that.begins))
     by (later m p) = absurd (k that.before that.word m that.behind that.fault (subst (λ l. Begins limit IsProgram l) p this.begins))
 
--- a fault of words
-data Wrong (kind : FaultKind) (these : List Word) (at : Place) : Type 0 where
+-- a fault of terminals
+data Wrong (kind : FaultKind) (these : List Terminal) (at : Place) : Type 0 where
   stops : kind ≡ Unexpected → StandsAt (Stops limit IsProgram) these at → Wrong kind these at
   sinks : kind ≡ TooDeep → StandsAt (Sinks limit IsProgram) these at → Wrong kind these at
 
-never_both : (these : List Word) (at there : Place) → StandsAt (Stops limit IsProgram) these at → StandsAt (Sinks limit IsProgram) these there → ⊥
+never_both : (these : List Terminal) (at there : Place) → StandsAt (Stops limit IsProgram) these at → StandsAt (Sinks limit IsProgram) these there → ⊥
 never_both these at there this that =
     let e = agree (Stops limit IsProgram) (Sinks limit IsProgram) stopped sunk these at there this that in
     let fault = subst (λ l. Sinks limit IsProgram l (that.word ∷ that.behind)) (sym e.before) that.fault in
@@ -94,7 +94,7 @@ record Same (kind other : FaultKind) (at there : Place) : Type 0 where
   kinds : kind ≡ other
   places : at ≡ there
 
-same_wrong : (kind other : FaultKind) (these : List Word) (at there : Place) → Wrong kind these at → Wrong other these there → Same kind other at there
+same_wrong : (kind other : FaultKind) (these : List Terminal) (at there : Place) → Wrong kind these at → Wrong other these there → Same kind other at there
 same_wrong kind other these at there (stops k h) (stops l j) =
     record { kinds = k ∙ sym l; places = (agree (Stops limit IsProgram) (Stops limit IsProgram) stopped stopped these at there h j).place }
 same_wrong kind other these at there (stops k h) (sinks l j) = absurd (never_both these at there h j)
@@ -129,7 +129,7 @@ same_told lexing.OutOfMemory kind other at there h k = absurd h
 data Found (text : List ℕ) (kind : FaultKind) (at : Place) : Type 0 where
   in_tokens : (fault : LexFault) → Lexes first_spot (chars text) (Err fault) → Told fault kind at → Found text kind at
   in_layout : (tokens : List Token) (fault : LexFault) → HasTokens text tokens → laid_out text (end_of text) tokens ≡ Err fault → Told fault kind at → Found text kind at
-  in_words : (laid : List Token) → HasLayout text laid → Wrong kind (words text laid) at → Found text kind at
+  in_terminals : (laid : List Token) → HasLayout text laid → Wrong kind (terminals_of text laid) at → Found text kind at
 
 found : (text : List ℕ) (kind : FaultKind) (at : Place) → IsTextFault text kind at → Found text kind at
 found text BadCharacter at h = in_tokens (lexing.BadCharacter at) h (refl, refl)
@@ -140,8 +140,8 @@ found text NameTooLong at h = in_tokens (lexing.NameTooLong at) h (refl, refl)
 found text Tab at h = in_tokens (lexing.Tab at) h (refl, refl)
 found text TextTooLong at h = in_tokens (lexing.TextTooLong at) h (refl, refl)
 found text BadColumn at (tokens, has, fails) = in_layout tokens (lexing.BadColumn at) has fails (refl, refl)
-found text Unexpected at (laid, layout, stands) = in_words laid layout (stops refl stands)
-found text TooDeep at (laid, layout, stands) = in_words laid layout (sinks refl stands)
+found text Unexpected at (laid, layout, stands) = in_terminals laid layout (stops refl stands)
+found text TooDeep at (laid, layout, stands) = in_terminals laid layout (sinks refl stands)
 found text Twice at h = absurd h
 found text Unknown at h = absurd h
 found text WrongKind at h = absurd h
@@ -162,15 +162,15 @@ same_found : (text : List ℕ) (kind other : FaultKind) (at there : Place) → F
 same_found text kind other at there (in_tokens f h t) (in_tokens g k u) =
     same_told f kind other at there t (subst (λ l. Told l other there) (sym (same_fault_of_tokens text f g h k)) u)
 same_found text kind other at there (in_tokens f h t) (in_layout ts g k p u) = absurd (no_fault text ts f k h)
-same_found text kind other at there (in_tokens f h t) (in_words laid (ts, k, p) u) = absurd (no_fault text ts f k h)
+same_found text kind other at there (in_tokens f h t) (in_terminals laid (ts, k, p) u) = absurd (no_fault text ts f k h)
 same_found text kind other at there (in_layout ts f h p t) (in_tokens g k u) = absurd (no_fault text ts g h k)
 same_found text kind other at there (in_layout ts f h p t) (in_layout us g k q u) =
     same_told f kind other at there t (subst (λ l. Told l other there) (sym (same_fault_of_layout text ts us f g h k p q)) u)
-same_found text kind other at there (in_layout ts f h p t) (in_words laid k u) = absurd (laid_or_not text ts laid f h p k)
-same_found text kind other at there (in_words laid (ts, h, p) t) (in_tokens g k u) = absurd (no_fault text ts g h k)
-same_found text kind other at there (in_words laid h t) (in_layout ts g k p u) = absurd (laid_or_not text ts laid g k p h)
-same_found text kind other at there (in_words laid h t) (in_words others k u) =
-    same_wrong kind other (words text laid) at there t (subst (λ l. Wrong other (words text l) there) (sym (same_layout text laid others h k)) u)
+same_found text kind other at there (in_layout ts f h p t) (in_terminals laid k u) = absurd (laid_or_not text ts laid f h p k)
+same_found text kind other at there (in_terminals laid (ts, h, p) t) (in_tokens g k u) = absurd (no_fault text ts g h k)
+same_found text kind other at there (in_terminals laid h t) (in_layout ts g k p u) = absurd (laid_or_not text ts laid g k p h)
+same_found text kind other at there (in_terminals laid h t) (in_terminals others k u) =
+    same_wrong kind other (terminals_of text laid) at there t (subst (λ l. Wrong other (terminals_of text l) there) (sym (same_layout text laid others h k)) u)
 
 pub one_fault : (text : List ℕ) (kind other : FaultKind) (at there : Place) → IsTextFault text kind at → IsTextFault text other there → (kind ≡ other) × (at ≡ there)
 one_fault text kind other at there h k = let s = same_found text kind other at there (found text kind at h) (found text other there k) in (s.kinds, s.places)

@@ -2,7 +2,7 @@
 ghost use Rattle.std.specs.Prelude.{◌≡◌, ℕ, List, MatchResult, IfOk};
 ghost use Rattle.std.specs.List.{All};
 ghost use Rattle.campl_lex.specs.Layout.{IsWritten, IsWhole};
-ghost use Rattle.campl_words.specs.Words.{IsCut};
+ghost use Rattle.campl_terminals.specs.Terminals.{IsCut};
 ghost use Rattle.campl_tree.specs.declared.place.Place.{Place};
 ghost use Rattle.campl_tree.specs.declared.decl.Program.{Program};
 ghost use Rattle.campl_cli.specs.Source.{HasTokens, HasLayout, HasTree, IsTextFault, IsTreeRefusal, refusal_of_lexing};
