@@ -29,12 +29,11 @@ use std::alloc::Global;
 pub fn body(alloc: Global, cursor: &mut Cursor<'_>, depth: u32) -> Result<Body, ParseError>
     ensures { Reads (read name.body depth cursor.old) result cursor.new }
 {
-    if !cursor.at(Kind::Do) {
+    if read!(cursor.take(Kind::Do, depth)).is_none() {
         let last = read!(last(alloc, cursor, depth));
         let actions = Items::new(alloc);
         return Ok(Body { actions, last });
     }
-    read!(cursor.expect(Kind::Do, depth));
     read!(cursor.expect(Kind::LeftBrace, depth));
     let actions = read!(actions(alloc, cursor, depth + 1));
     let last = read!(last(alloc, cursor, depth + 1));

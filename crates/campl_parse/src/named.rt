@@ -39,10 +39,7 @@ fn identity(
 {
     let name = made!(word.name(alloc));
     read!(cursor.expect(Kind::Identity, depth));
-    let negated = cursor.at(Kind::Neg);
-    if negated {
-        read!(cursor.expect(Kind::Neg, depth));
-    }
+    let negated = read!(cursor.take(Kind::Neg, depth)).is_some();
     let other = read!(cursor.lower(alloc, depth));
     Ok(Last::Identity(word.place(), name, negated, other))
 }

@@ -25,11 +25,10 @@ pub fn links(
     ensures { Reads (adds found (read name.links depth cursor.old)) result cursor.new }
 {
     made!(found.push(read!(link(alloc, cursor, depth))));
-    if !cursor.at(Kind::Comma) {
-        return Ok(found);
+    match read!(cursor.take(Kind::Comma, depth)) {
+        Some(_) => links(alloc, cursor, depth + 1, found),
+        None => Ok(found),
     }
-    read!(cursor.expect(Kind::Comma, depth));
-    links(alloc, cursor, depth + 1, found)
 }
 
 /// A channel's name and its type.

@@ -1,9 +1,9 @@
 -- One line more of those that are read.
-use Rattle.std.proofs.Common.{◌≡◌, ℕ, suc, ◌+◌, ◌≤◌, Bool, true, false, List, [], ◌∷◌, ◌++◌, length, Result, Ok, Err, refl, sym, ap, ◌∙◌, arith, append-nil}
-use Rattle.campl_gram.specs.declared.fault.Fault.{Fault}
+use Rattle.std.proofs.Common.{◌≡◌, ℕ, suc, ◌+◌, ◌≤◌, true, false, List, [], ◌∷◌, ◌++◌, length, Result, Ok, Err, refl, sym, ◌∙◌, arith}
 use Rattle.campl_gram.specs.Reading.{Outcome, and_then, adds, next_in, expect}
 use Rattle.campl_gram.proofs.Fuel.{need}
 use Rattle.campl_gram.proofs.Lists.{adds_one}
+use Rattle.campl_grammar.specs.declared.kind.Kind.{Kind}
 use Rattle.campl_grammar.specs.declared.kind.Kind.TheVariants as k
 use Rattle.campl_grammar.specs.Word.{Word, terminals}
 use Rattle.campl_grammar.specs.Names.{Name}
@@ -13,7 +13,7 @@ use Rattle.campl_grammar.proofs.Exactness.{leaves}
 use Rattle.campl_parse_terms.specs.declared.error.ParseError.{ParseError}
 use Rattle.campl_parse_terms.specs.declared.error.ParseError.TheVariants.{OutOfMemory, Refused}
 use Rattle.campl_parse_terms.specs.Reads.{Reads, Fails}
-use Rattle.campl_parse_terms.specs.Lines.{AreLines, behind_line, in_block}
+use Rattle.campl_parse_terms.specs.Lines.{AreLines, behind_word, in_block}
 
 module _ {A : Type 0} (d : ℕ) (line : List Word → Outcome Word A) (lines : List Word → Outcome Word (List A)) (are : AreLines d line lines) (found : List A) (ts us : List Word) (old : Outcome Word (List A)) (so_far : adds found (lines ts) ≡ old) where
   -- where a line is refused, all are
@@ -54,7 +54,11 @@ module _ {A : Type 0} (d : ℕ) (lines : List Word → Outcome Word (List A)) (t
 pub shortens : (m : Name) (d : ℕ) (ts us : List Word) (x : Value m) → Reads (read m d ts) (Ok x) us → length us ≤ length ts
 shortens m d ts us x h = let a : length us + need (tables.nul m) ≤ length ts = leaves m d ts us x h in omega arith
 
--- a word in front leaves the value of what stands behind it as it is
-pub behind_word : {A : Type 0} (o : Outcome Word A) (r : Result A ParseError) (left : List Word) → Reads o r left → Reads (and_then o (λ x us. (Ok x, us))) r left
-behind_word (Ok x, us) r left h = h
-behind_word (Err f, us) r left h = h
+-- a word in front of something leaves its answer as it is
+pub word_passed : {A : Type 0} (kind : Kind) (next : ℕ → List Word → Outcome Word A) (d : ℕ) (ts us : List Word) (w : Word) → expect terminals limit kind d ts ≡ (Ok w, us)
+    → (r : Result A ParseError) (left : List Word) → Reads (next d us) r left → Reads (behind_word kind next d ts) r left
+word_passed kind next d ts us w e r left h = rw e (same_answer (next d us) r left h)
+  where
+    same_answer : {A : Type 0} (o : Outcome Word A) (r : Result A ParseError) (left : List Word) → Reads o r left → Reads (and_then o (λ x vs. (Ok x, vs))) r left
+    same_answer (Ok x, us) r left h = h
+    same_answer (Err f, us) r left h = h

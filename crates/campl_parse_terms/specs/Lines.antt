@@ -1,8 +1,9 @@
 -- Lines with `;` between them, and the calls that read one.
 use Rattle.std.specs.Prelude.{◌≡◌, ℕ, suc, ◌≤◌, List, [], ◌∷◌, length, Result, Ok, if◌then◌else◌}
-use denote.Ref.{MutBor}
-use denote.Param.Members.{Shared}
+use Rattle.std.specs.Borrow.{MutBor}
+use Rattle.std.specs.Fn.{Shared}
 use Rattle.campl_gram.specs.Reading.{Outcome, and_then, next_in, expect}
+use Rattle.campl_grammar.specs.declared.kind.Kind.{Kind}
 use Rattle.campl_grammar.specs.declared.kind.Kind.TheVariants as k
 use Rattle.campl_grammar.specs.Word.{Word, terminals}
 use Rattle.campl_grammar.specs.Rules.{limit}
@@ -22,6 +23,10 @@ abbrev pub in_block : {A : Type 0} → (List Word → Outcome Word (List A)) →
 in_block lines depth ts =
     and_then (expect terminals limit k.LeftBrace depth ts) (λ _ us.
     and_then (and_then (lines us) (λ xs vs. and_then (expect terminals limit k.RightBrace (suc depth) vs) (λ _ ws. (Ok xs, ws)))) (λ xs vs. (Ok xs, vs)))
+
+-- a word of the kind, and what stands behind it at the same nesting
+abbrev pub behind_word : {A : Type 0} → Kind → (ℕ → List Word → Outcome Word A) → ℕ → List Word → Outcome Word A
+behind_word kind next depth ts = and_then (expect terminals limit kind depth ts) (λ _ us. and_then (next depth us) (λ x vs. (Ok x, vs)))
 
 -- a call of f at the words ts may answer r and leave us
 pub record Gives {F A : Type 0} (g : Shared F (MutBor (List Word) × Unit {0}) (Result A ParseError × (MutBor (List Word) × Unit {0}))) (f : F) (ts : List Word) (r : Result A ParseError) (us : List Word) : Type 0 where

@@ -2,7 +2,7 @@
 ghost use Rattle.std.specs.Prelude.{◌≡◌, ◌≤◌, OnOk, List, suc};
 ghost use Rattle.campl_gram.specs.Reading.{Outcome};
 ghost use Rattle.campl_grammar.specs.Word as words;
-ghost use Rattle.campl_parse_terms.specs.Lines.{AreLines, ReadsLine, Shortens, in_block};
+ghost use Rattle.campl_parse_terms.specs.Lines.{AreLines, ReadsLine, Shortens, behind_word, in_block};
 ghost use Rattle.campl_parse_terms.specs.Reads.{Reads};
 
 use crate::cursor::Cursor;
@@ -48,4 +48,22 @@ pub fn block<T: Drop, F: Fn(&mut Cursor<'_>) -> Result<T, ParseError>>(
     let found = read!(lines(alloc, cursor, depth + 1, line));
     read!(cursor.expect(Kind::RightBrace, depth + 1));
     Ok(found)
+}
+
+/// Takes a word of this kind, and reads the block behind it.
+pub fn block_behind<T: Drop, F: Fn(&mut Cursor<'_>) -> Result<T, ParseError>>(
+    alloc: Global,
+    cursor: &mut Cursor<'_>,
+    kind: Kind,
+    depth: u32,
+    line: F,
+) -> Result<Items<T>, ParseError>
+    requires callable { depth ≤ 200 → F.IsAlwaysCallable line }
+    requires shortens { Shortens F.Fn line }
+    ensures { (one : List words.Word → Outcome words.Word T) (all : List words.Word → Outcome words.Word (List T)) → AreLines (suc depth) one all → ReadsLine F.Fn line one → Reads (behind_word kind (in_block all) depth cursor.old) result cursor.new }
+{
+    match cursor.expect(kind, depth) {
+        Ok(_) => block(alloc, cursor, depth, line),
+        Err(fault) => Err(fault),
+    }
 }

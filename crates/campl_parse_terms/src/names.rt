@@ -26,10 +26,9 @@ pub fn parameters(
     ensures { Reads (read parameters_name depth cursor.old) result cursor.new }
 {
     let none = Items::new(alloc);
-    if !cursor.at(Kind::LeftParen) {
+    if read!(cursor.take(Kind::LeftParen, depth)).is_none() {
         return Ok(none);
     }
-    read!(cursor.expect(Kind::LeftParen, depth));
     let found = read!(idents(alloc, cursor, depth + 1, none));
     read!(cursor.expect(Kind::RightParen, depth + 1));
     Ok(found)
@@ -71,11 +70,10 @@ pub fn idents(
     ensures { Reads (adds found (read idents_name depth cursor.old)) result cursor.new }
 {
     made!(found.push(read!(cursor.lower(alloc, depth))));
-    if !cursor.at(Kind::Comma) {
-        return Ok(found);
+    match read!(cursor.take(Kind::Comma, depth)) {
+        Some(_) => idents(alloc, cursor, depth + 1, found),
+        None => Ok(found),
     }
-    read!(cursor.expect(Kind::Comma, depth));
-    idents(alloc, cursor, depth + 1, found)
 }
 
 /// Whether a name or `_` is the next word.
@@ -112,11 +110,10 @@ fn vars(
     ensures { Reads (adds found (read vars_name depth cursor.old)) result cursor.new }
 {
     made!(found.push(read!(var(alloc, cursor, depth))));
-    if !cursor.at(Kind::Comma) {
-        return Ok(found);
+    match read!(cursor.take(Kind::Comma, depth)) {
+        Some(_) => vars(alloc, cursor, depth + 1, found),
+        None => Ok(found),
     }
-    read!(cursor.expect(Kind::Comma, depth));
-    vars(alloc, cursor, depth + 1, found)
 }
 
 /// A name, or `_`.
@@ -124,8 +121,7 @@ fn vars(
 pub fn var(alloc: Global, cursor: &mut Cursor<'_>, depth: u32) -> Result<Binder, ParseError>
     ensures { Reads (read var_name depth cursor.old) result cursor.new }
 {
-    if cursor.at(Kind::Lower) {
-        let word = read!(cursor.expect(Kind::Lower, depth));
+    if let Some(word) = read!(cursor.take(Kind::Lower, depth)) {
         return Ok(Binder::Variable(word.place(), made!(word.name(alloc))));
     }
     let word = read!(cursor.expect(Kind::Wildcard, depth));

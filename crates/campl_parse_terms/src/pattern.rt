@@ -61,25 +61,20 @@ fn literal_pattern(
 ) -> Result<Pattern, ParseError>
     ensures { Reads (piece literal_pattern_piece depth cursor.old) result cursor.new }
 {
-    if cursor.at(Kind::Number) {
-        let word = read!(cursor.expect(Kind::Number, depth));
+    if let Some(word) = read!(cursor.take(Kind::Number, depth)) {
         return Ok(Pattern::Number(word.place(), word.number()));
     }
-    if cursor.at(Kind::Minus) {
-        let place = read!(cursor.expect(Kind::Minus, depth)).place();
+    if let Some(minus) = read!(cursor.take(Kind::Minus, depth)) {
         let word = read!(cursor.expect(Kind::Number, depth));
-        return Ok(Pattern::Negative(place, word.number()));
+        return Ok(Pattern::Negative(minus.place(), word.number()));
     }
-    if cursor.at(Kind::Character) {
-        let word = read!(cursor.expect(Kind::Character, depth));
+    if let Some(word) = read!(cursor.take(Kind::Character, depth)) {
         return Ok(Pattern::Character(word.place(), word.character()));
     }
-    if cursor.at(Kind::Text) {
-        let word = read!(cursor.expect(Kind::Text, depth));
+    if let Some(word) = read!(cursor.take(Kind::Text, depth)) {
         return Ok(Pattern::Text(word.place(), made!(word.text(alloc))));
     }
-    if cursor.at(Kind::True) {
-        let word = read!(cursor.expect(Kind::True, depth));
+    if let Some(word) = read!(cursor.take(Kind::True, depth)) {
         return Ok(Pattern::True(word.place()));
     }
     let word = read!(cursor.expect(Kind::False, depth));
@@ -91,12 +86,10 @@ fn literal_pattern(
 fn simple_pattern(alloc: Global, cursor: &mut Cursor<'_>, depth: u32) -> Result<Pattern, ParseError>
     ensures { Reads (read name.simple_pattern depth cursor.old) result cursor.new }
 {
-    if cursor.at(Kind::Wildcard) {
-        let word = read!(cursor.expect(Kind::Wildcard, depth));
+    if let Some(word) = read!(cursor.take(Kind::Wildcard, depth)) {
         return Ok(Pattern::Wildcard(word.place()));
     }
-    if cursor.at(Kind::Lower) {
-        let word = read!(cursor.expect(Kind::Lower, depth));
+    if let Some(word) = read!(cursor.take(Kind::Lower, depth)) {
         return Ok(Pattern::Variable(word.place(), made!(word.name(alloc))));
     }
     literal_pattern(alloc, cursor, depth)
@@ -133,10 +126,9 @@ fn constructor_pattern(
     let word = read!(cursor.expect(Kind::Upper, depth));
     let name = made!(word.name(alloc));
     let parts = Items::new(alloc);
-    if !cursor.at(Kind::LeftParen) {
+    if read!(cursor.take(Kind::LeftParen, depth)).is_none() {
         return Ok(Pattern::Constructor(word.place(), name, parts));
     }
-    read!(cursor.expect(Kind::LeftParen, depth));
     let parts = read!(patterns(alloc, cursor, depth + 1, parts));
     read!(cursor.expect(Kind::RightParen, depth + 1));
     Ok(Pattern::Constructor(word.place(), name, parts))
@@ -168,11 +160,10 @@ fn grouped_pattern(
     let place = cursor.place();
     read!(cursor.expect(Kind::LeftParen, depth));
     let left = read!(pattern(alloc, cursor, depth + 1));
-    if !cursor.at(Kind::Comma) {
+    if read!(cursor.take(Kind::Comma, depth + 1)).is_none() {
         read!(cursor.expect(Kind::RightParen, depth + 1));
         return Ok(left);
     }
-    read!(cursor.expect(Kind::Comma, depth + 1));
     let right = read!(pattern(alloc, cursor, depth + 2));
     read!(cursor.expect(Kind::RightParen, depth + 1));
     let left = made!(Boxed::new(alloc, left));
@@ -187,10 +178,9 @@ pub fn pattern(alloc: Global, cursor: &mut Cursor<'_>, depth: u32) -> Result<Pat
 {
     let place = cursor.place();
     let left = read!(patom(alloc, cursor, depth));
-    if !cursor.at(Kind::Colon) {
+    if read!(cursor.take(Kind::Colon, depth)).is_none() {
         return Ok(left);
     }
-    read!(cursor.expect(Kind::Colon, depth));
     let right = read!(pattern(alloc, cursor, depth + 1));
     let left = made!(Boxed::new(alloc, left));
     Ok(Pattern::Cons(place, left, made!(Boxed::new(alloc, right))))
@@ -208,11 +198,10 @@ fn patterns(
     ensures { Reads (adds found (read name.patterns depth cursor.old)) result cursor.new }
 {
     made!(found.push(read!(pattern(alloc, cursor, depth))));
-    if !cursor.at(Kind::Comma) {
-        return Ok(found);
+    match read!(cursor.take(Kind::Comma, depth)) {
+        Some(_) => patterns(alloc, cursor, depth + 1, found),
+        None => Ok(found),
     }
-    read!(cursor.expect(Kind::Comma, depth));
-    patterns(alloc, cursor, depth + 1, found)
 }
 
 /// Patterns with commas between them, or none.

@@ -60,11 +60,10 @@ fn stypes(
     ensures { Reads (adds found (read name.stypes depth cursor.old)) result cursor.new }
 {
     made!(found.push(read!(stype(alloc, cursor, depth))));
-    if !cursor.at(Kind::Comma) {
-        return Ok(found);
+    match read!(cursor.take(Kind::Comma, depth)) {
+        Some(_) => stypes(alloc, cursor, depth + 1, found),
+        None => Ok(found),
     }
-    read!(cursor.expect(Kind::Comma, depth));
-    stypes(alloc, cursor, depth + 1, found)
 }
 
 /// The type of a value.
@@ -73,16 +72,13 @@ fn stypes(
 pub fn stype(alloc: Global, cursor: &mut Cursor<'_>, depth: u32) -> Result<SeqType, ParseError>
     ensures { Reads (read name.stype depth cursor.old) result cursor.new }
 {
-    if cursor.at(Kind::IntType) {
-        read!(cursor.expect(Kind::IntType, depth));
+    if read!(cursor.take(Kind::IntType, depth)).is_some() {
         return Ok(SeqType::Int);
     }
-    if cursor.at(Kind::CharType) {
-        read!(cursor.expect(Kind::CharType, depth));
+    if read!(cursor.take(Kind::CharType, depth)).is_some() {
         return Ok(SeqType::Char);
     }
-    if cursor.at(Kind::BoolType) {
-        read!(cursor.expect(Kind::BoolType, depth));
+    if read!(cursor.take(Kind::BoolType, depth)).is_some() {
         return Ok(SeqType::Bool);
     }
     if cursor.at(Kind::LeftBracket) {
@@ -111,12 +107,10 @@ fn named_or_grouped(
 ) -> Result<SeqType, ParseError>
     ensures { Reads (piece named_or_grouped_piece depth cursor.old) result cursor.new }
 {
-    if cursor.at(Kind::Lower) {
-        let word = read!(cursor.expect(Kind::Lower, depth));
+    if let Some(word) = read!(cursor.take(Kind::Lower, depth)) {
         return Ok(SeqType::Variable(word.place(), made!(word.name(alloc))));
     }
-    if cursor.at(Kind::Upper) {
-        let word = read!(cursor.expect(Kind::Upper, depth));
+    if let Some(word) = read!(cursor.take(Kind::Upper, depth)) {
         let name = made!(word.name(alloc));
         let arguments = read!(type_arguments(alloc, cursor, depth));
         return Ok(SeqType::Named(word.place(), name, arguments));
@@ -132,11 +126,10 @@ fn grouped_type(alloc: Global, cursor: &mut Cursor<'_>, depth: u32) -> Result<Se
 {
     read!(cursor.expect(Kind::LeftParen, depth));
     let first = read!(stype(alloc, cursor, depth + 1));
-    if !cursor.at(Kind::Comma) {
+    if read!(cursor.take(Kind::Comma, depth + 1)).is_none() {
         read!(cursor.expect(Kind::RightParen, depth + 1));
         return Ok(first);
     }
-    read!(cursor.expect(Kind::Comma, depth + 1));
     let second = read!(stype(alloc, cursor, depth + 2));
     read!(cursor.expect(Kind::RightParen, depth + 1));
     Ok(SeqType::Pair(
@@ -156,10 +149,9 @@ pub fn type_arguments(
     ensures { Reads (read name.type_arguments depth cursor.old) result cursor.new }
 {
     let none = Items::new(alloc);
-    if !cursor.at(Kind::LeftParen) {
+    if read!(cursor.take(Kind::LeftParen, depth)).is_none() {
         return Ok(none);
     }
-    read!(cursor.expect(Kind::LeftParen, depth));
     let found = read!(stypes(alloc, cursor, depth + 1, none));
     read!(cursor.expect(Kind::RightParen, depth + 1));
     Ok(found)
@@ -207,11 +199,10 @@ fn ctypes(
     ensures { Reads (adds found (read name.ctypes depth cursor.old)) result cursor.new }
 {
     made!(found.push(read!(ctype(alloc, cursor, depth))));
-    if !cursor.at(Kind::Comma) {
-        return Ok(found);
+    match read!(cursor.take(Kind::Comma, depth)) {
+        Some(_) => ctypes(alloc, cursor, depth + 1, found),
+        None => Ok(found),
     }
-    read!(cursor.expect(Kind::Comma, depth));
-    ctypes(alloc, cursor, depth + 1, found)
 }
 
 /// The type of a channel.
@@ -281,8 +272,7 @@ fn catom(alloc: Global, cursor: &mut Cursor<'_>, depth: u32) -> Result<ChanType,
     if cursor.at(Kind::NegType) {
         return neg_type(alloc, cursor, depth);
     }
-    if cursor.at(Kind::TopBot) {
-        read!(cursor.expect(Kind::TopBot, depth));
+    if read!(cursor.take(Kind::TopBot, depth)).is_some() {
         return Ok(ChanType::TopBot);
     }
     if cursor.at(Kind::Upper) {

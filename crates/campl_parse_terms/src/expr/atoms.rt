@@ -50,10 +50,9 @@ fn variable(alloc: Global, cursor: &mut Cursor<'_>, depth: u32) -> Result<Expr, 
 {
     let word = read!(cursor.expect(Kind::Lower, depth));
     let name = made!(word.name(alloc));
-    if !cursor.at(Kind::LeftParen) {
+    if read!(cursor.take(Kind::LeftParen, depth)).is_none() {
         return Ok(Expr::Variable(word.place(), name));
     }
-    read!(cursor.expect(Kind::LeftParen, depth));
     let arguments = read!(some_exprs(alloc, cursor, depth + 1));
     read!(cursor.expect(Kind::RightParen, depth + 1));
     Ok(Expr::Call(word.place(), name, arguments))
@@ -94,10 +93,9 @@ fn constructor(alloc: Global, cursor: &mut Cursor<'_>, depth: u32) -> Result<Exp
     let word = read!(cursor.expect(Kind::Upper, depth));
     let name = made!(word.name(alloc));
     let none = Items::new(alloc);
-    if !cursor.at(Kind::LeftParen) {
+    if read!(cursor.take(Kind::LeftParen, depth)).is_none() {
         return Ok(Expr::Constructor(word.place(), name, none));
     }
-    read!(cursor.expect(Kind::LeftParen, depth));
     let parts = read!(exprs(alloc, cursor, depth + 1, none));
     read!(cursor.expect(Kind::RightParen, depth + 1));
     Ok(Expr::Constructor(word.place(), name, parts))

@@ -25,10 +25,9 @@ pub fn disjunction(alloc: Global, cursor: &mut Cursor<'_>, depth: u32) -> Result
 {
     let place = cursor.place();
     let left = read!(conjunction(alloc, cursor, depth));
-    if !cursor.at(Kind::Or) {
+    if read!(cursor.take(Kind::Or, depth)).is_none() {
         return Ok(left);
     }
-    read!(cursor.expect(Kind::Or, depth));
     let right = read!(disjunction(alloc, cursor, depth + 1));
     Ok(Expr::Or(
         place,
@@ -45,10 +44,9 @@ fn conjunction(alloc: Global, cursor: &mut Cursor<'_>, depth: u32) -> Result<Exp
 {
     let place = cursor.place();
     let left = read!(cmp(alloc, cursor, depth));
-    if !cursor.at(Kind::And) {
+    if read!(cursor.take(Kind::And, depth)).is_none() {
         return Ok(left);
     }
-    read!(cursor.expect(Kind::And, depth));
     let right = read!(conjunction(alloc, cursor, depth + 1));
     Ok(Expr::And(
         place,
@@ -215,10 +213,9 @@ fn factors(
 fn unary(alloc: Global, cursor: &mut Cursor<'_>, depth: u32) -> Result<Expr, ParseError>
     ensures { Reads (read name.unary depth cursor.old) result cursor.new }
 {
-    if !cursor.at(Kind::Minus) {
+    let Some(minus) = read!(cursor.take(Kind::Minus, depth)) else {
         return atom(alloc, cursor, depth);
-    }
-    let place = read!(cursor.expect(Kind::Minus, depth)).place();
+    };
     let inner = read!(unary(alloc, cursor, depth + 1));
-    Ok(Expr::Negate(place, made!(Boxed::new(alloc, inner))))
+    Ok(Expr::Negate(minus.place(), made!(Boxed::new(alloc, inner))))
 }

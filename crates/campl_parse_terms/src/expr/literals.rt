@@ -56,20 +56,16 @@ pub fn starts_simple(cursor: &Cursor<'_>) -> bool
 pub fn simple(alloc: Global, cursor: &mut Cursor<'_>, depth: u32) -> Result<Expr, ParseError>
     ensures { Reads (read name.simple depth cursor.old) result cursor.new }
 {
-    if cursor.at(Kind::Number) {
-        let word = read!(cursor.expect(Kind::Number, depth));
+    if let Some(word) = read!(cursor.take(Kind::Number, depth)) {
         return Ok(Expr::Number(word.place(), word.number()));
     }
-    if cursor.at(Kind::Character) {
-        let word = read!(cursor.expect(Kind::Character, depth));
+    if let Some(word) = read!(cursor.take(Kind::Character, depth)) {
         return Ok(Expr::Character(word.place(), word.character()));
     }
-    if cursor.at(Kind::Text) {
-        let word = read!(cursor.expect(Kind::Text, depth));
+    if let Some(word) = read!(cursor.take(Kind::Text, depth)) {
         return Ok(Expr::Text(word.place(), made!(word.text(alloc))));
     }
-    if cursor.at(Kind::True) {
-        let word = read!(cursor.expect(Kind::True, depth));
+    if let Some(word) = read!(cursor.take(Kind::True, depth)) {
         return Ok(Expr::True(word.place()));
     }
     let word = read!(cursor.expect(Kind::False, depth));
