@@ -42,12 +42,12 @@ abbrev pub number_of : Terminal → ℤ
 number_of w = pos (digits w.text)
 
 -- the characters of a text, and the one of a character literal
-unfoldable pub text_of : Terminal → List ℕ
-text_of w = unescaped 0 (between (chars w.text))
+unfoldable pub content_of : Terminal → List ℕ
+content_of w = unescaped 0 (between (chars w.text))
 
 abbrev pub first_or_zero : List ℕ → ℕ
 first_or_zero [] = 0
 first_or_zero (c ∷ cs) = c
 
 unfoldable pub character_of : Terminal → ℕ
-character_of w = first_or_zero (text_of w)
+character_of w = first_or_zero (content_of w)

@@ -37,7 +37,7 @@ use Rattle.campl_tree.specs.declared.decl.ProcessRow.{ProcessRow}
 use Rattle.campl_tree.specs.declared.decl.ProcessDecl.{ProcessDecl}
 use Rattle.campl_tree.specs.declared.decl.Decl.{Decl}
 use Rattle.campl_tree.specs.declared.decl.Program.{Program}
-use Rattle.campl_grammar.specs.Terminal.{Terminal, name_of, number_of, text_of, character_of}
+use Rattle.campl_grammar.specs.Terminal.{Terminal, name_of, number_of, content_of, character_of}
 
 -- ---- declarations
 
@@ -169,7 +169,7 @@ abbrev pub character_pattern_of : Terminal → Pattern
 character_pattern_of w = p.Character w.place (character_of w)
 
 abbrev pub text_pattern_of : Terminal → Pattern
-text_pattern_of w = p.Text w.place (text_of w)
+text_pattern_of w = p.Text w.place (content_of w)
 
 abbrev pub true_pattern_of : Terminal → Pattern
 true_pattern_of w = p.True w.place
@@ -243,7 +243,7 @@ abbrev pub character_expr_of : Terminal → Expr
 character_expr_of w = e.Character w.place (character_of w)
 
 abbrev pub text_expr_of : Terminal → Expr
-text_expr_of w = e.Text w.place (text_of w)
+text_expr_of w = e.Text w.place (content_of w)
 
 abbrev pub true_of : Terminal → Expr
 true_of w = e.True w.place

@@ -25,6 +25,7 @@ use Rattle.campl_lex.specs.Layout.{adds}
 abbrev pub peek : ℕ → List ℕ → ℕ
 peek i cs = slice_index_or cs i 0
 
+-- how many characters an escape has, if there is one
 abbrev pub length_of : Option (ℕ × ℕ) → ℕ
 length_of None = 0
 length_of (Some e) = e.1

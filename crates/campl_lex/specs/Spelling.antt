@@ -1,4 +1,5 @@
--- How names, numbers, reserved words and symbols are spelled, and what kinds of tokens they are. A character is its code: 39 is ', 45 -, 48 to 57 the digits, 65 A, 90 Z, 95 _.
+-- How names, numbers, reserved words and symbols are spelled, and what kinds of tokens they are.
+-- A character is its code: 34 is ", 39 ', 48 to 57 the digits, 65 A, 90 Z, 95 _.
 use Rattle.std.specs.Prelude.{ℕ, ◌+◌, ◌-◌, ◌*◌, Bool, false, ◌||◌, ◌&&◌, ◌==◌, if◌then◌else◌, List, [], ◌∷◌, codes, Option, Some, None, is_some}
 use Rattle.std.specs.List.{list_all, fold}
 use Rattle.std.specs.Option.{unwrap_or}
@@ -99,6 +100,7 @@ symbol (a ∷ b ∷ []) = kind_in doubles (a ∷ b ∷ [])
 symbol (a ∷ b ∷ c ∷ []) = kind_in triples (a ∷ b ∷ c ∷ [])
 symbol w = None
 
+-- the same as tests: of a symbol of one character, of two and of three
 abbrev pub is_single : ℕ → Bool
 is_single a = is_some (kind_in singles (a ∷ []))
 
@@ -121,7 +123,7 @@ name_kind (c ∷ cs) =
     if bytes_eq (c ∷ cs) (codes "_") then k.Wildcard
     else unwrap_or (reserved (c ∷ cs)) (if is_ascii_uppercase c then k.Upper else k.Lower)
 
--- the kind of a symbol; other characters have none, and are taken for the last one
+-- the kind of a symbol; what is none isn't asked for
 abbrev pub symbol_kind : List ℕ → TokenKind
 symbol_kind w = unwrap_or (symbol w) k.SingleEquals
 

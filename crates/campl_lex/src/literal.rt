@@ -27,15 +27,10 @@ pub struct Body {
 }
 
 /// The length of the escape behind a backslash; 0 where it is none.
+#[tactic(auto, using(crate::proofs::Scanning::escape_within))]
 fn escape_len(text: &[char]) -> usize
     ensures value { result ≡ escape_len text.now }
     ensures within { result ≤ length text.now }
-{
-    escape_length(text)
-}
-
-fn escape_length(text: &[char]) -> usize
-    ensures { result ≡ escape_len text.now }
 {
     match escape(text) {
         Some((_, length, _)) => length,

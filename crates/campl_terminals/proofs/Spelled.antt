@@ -10,7 +10,7 @@ use Rattle.campl_lex.proofs.Numbers.{grown}
 use Rattle.campl_lex.specs.Limits.{greatest_number}
 use Rattle.campl_lex.specs.Meaning.{escape, stands_for, unescaped, between}
 use Rattle.campl_lex.proofs.Escapes.{escape_reads}
-use Rattle.campl_grammar.specs.Terminal.{Terminal, digits, text_of}
+use Rattle.campl_grammar.specs.Terminal.{Terminal, digits, content_of}
 use Rattle.campl_terminals.proofs.Inside.{one_inside}
 use Rattle.campl_terminals.proofs.Taken.{skipped}
 
@@ -34,8 +34,8 @@ spelled_is q (spells.escape e c {w} {cs} k s) =
     ∙ ap (λ t. c ∷ t) (skipped (length e) (e ++ w) ∙ ap (unescaped 0) (drop_at e w (length e) refl) ∙ spelled_is q s)
 
 -- A terminal that is a literal has the text that the literal spells.
-pub literal_text : (q : ℕ) (letters cs : List ℕ) (w : Terminal) → Spells q letters cs → chars w.text ≡ q ∷ (letters ++ q ∷ []) → text_of w ≡ cs
-unfolding text_of
+pub literal_text : (q : ℕ) (letters cs : List ℕ) (w : Terminal) → Spells q letters cs → chars w.text ≡ q ∷ (letters ++ q ∷ []) → content_of w ≡ cs
+unfolding content_of
 literal_text q letters cs w s e = ap (λ t. unescaped 0 (between t)) e ∙ ap (unescaped 0) (one_inside q q letters) ∙ spelled_is q s
 
 -- A number within the limit is the one that the lexer reads.

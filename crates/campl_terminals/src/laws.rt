@@ -12,12 +12,12 @@ ghost use Rattle.campl_lex.specs.Spot.{first_spot};
 ghost use Rattle.campl_lex.specs.Tokens.{Lexes};
 ghost use Rattle.campl_lex.specs.declared.token.TokenKind.TheVariants.{LeftBrace, RightBrace};
 ghost use Rattle.campl_lex.specs.Limits.{greatest_number};
-ghost use Rattle.campl_grammar.specs.Terminal.{Terminal, number_of, text_of, terminals};
+ghost use Rattle.campl_grammar.specs.Terminal.{Terminal, number_of, content_of, terminals};
 ghost use Rattle.campl_terminals.specs.Terminals.{terminals_of, IsCut};
 
 /// The text of a literal's terminal is what the literal spells.
 pub fn text_is_spelled()
-    ensures { (quote : ℕ) (letters cs : List ℕ) (w : Terminal) → Spells quote letters cs → chars w.text ≡ quote ∷ (letters ++ quote ∷ []) → text_of w ≡ cs }
+    ensures { (quote : ℕ) (letters cs : List ℕ) (w : Terminal) → Spells quote letters cs → chars w.text ≡ quote ∷ (letters ++ quote ∷ []) → content_of w ≡ cs }
 {}
 
 /// The number of a terminal is the one that its digits are, where that is no greater than the greatest.

@@ -1,6 +1,6 @@
 //! Terminals, and what each says.
 ghost use Rattle.std.specs.Prelude.{◌≡◌, IfOk};
-ghost use Rattle.campl_grammar.specs.Terminal.{name_of, ident_of, number_of, text_of, character_of};
+ghost use Rattle.campl_grammar.specs.Terminal.{name_of, ident_of, number_of, content_of, character_of};
 
 use crate::digits::digits;
 use crate::literal::{between, first_letter, unescaped};
@@ -74,7 +74,7 @@ impl<'a> Terminal<'a> {
     }
 
     /// The character of a character literal.
-    #[tactic(auto, unfolding(campl_grammar::specs::Terminal::character_of, campl_grammar::specs::Terminal::text_of))]
+    #[tactic(auto, unfolding(campl_grammar::specs::Terminal::character_of, campl_grammar::specs::Terminal::content_of))]
     pub fn character(&self) -> char
         ensures { result ≡ character_of self.now }
     {
@@ -85,9 +85,9 @@ impl<'a> Terminal<'a> {
     }
 
     /// The characters of a text literal, behind its escapes.
-    #[tactic(auto, unfolding(campl_grammar::specs::Terminal::text_of))]
+    #[tactic(auto, unfolding(campl_grammar::specs::Terminal::content_of))]
     pub fn text(&self, alloc: Global) -> Result<Items<char>, AllocError>
-        ensures { IfOk result (λ text. text ≡ text_of self.now) }
+        ensures { IfOk result (λ text. text ≡ content_of self.now) }
     {
         unescaped(alloc, between(self.text))
     }
