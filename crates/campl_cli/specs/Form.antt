@@ -12,6 +12,7 @@ use Rattle.campl_tree.specs.declared.decl.ProcessDecl.{ProcessDecl}
 use Rattle.campl_tree.specs.declared.decl.Decl.{Decl}
 use Rattle.campl_tree.specs.declared.decl.Decl.TheVariants as decl
 use Rattle.campl_tree.specs.declared.decl.Program.{Program}
+use Rattle.campl_types.specs.Names.{is_empty}
 use Rattle.campl_cli.specs.declared.printer.Printer.{Printer}
 
 -- the console's name and each text, by their characters
@@ -66,10 +67,6 @@ printed_on x (first ∷ []) channel = nothing_more x first channel
 printed_on x (first ∷ second ∷ rest) channel = before (printed_text x first second) (printed_on x rest channel)
 
 -- ---- the process
-
-abbrev pub is_empty : {A : Type 0} → List A → Bool
-is_empty [] = true
-is_empty (x ∷ xs) = false
 
 -- the type is `Console`
 abbrev pub is_console : c.ChanType → Bool
