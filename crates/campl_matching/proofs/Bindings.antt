@@ -1,5 +1,5 @@
 -- Declared types matched against types.
-use Rattle.std.proofs.Common.{◌≡◌, ◌≢◌, ◌∙◌, refl, sym, ap, ℕ, suc, Bool, true, false, ◌&&◌, ◌||◌, List, [], ◌∷◌, ◌++◌, map, length, Option, Some, None, is_some, if◌then◌else◌, option_map}
+use Rattle.std.proofs.Common.{◌≡◌, ◌≢◌, refl, ap, suc, Bool, true, false, ◌&&◌, ◌||◌, List, [], ◌∷◌, ◌++◌, map, length, take, Option, Some, None, is_some, if◌then◌else◌}
 use Rattle.std.proofs.lemmas.List.{drop_more, drop_all}
 use Rattle.campl_tree.specs.declared.place.Place.{Place}
 use Rattle.campl_tree.specs.declared.types.SeqType as declared
@@ -8,12 +8,12 @@ use Rattle.campl_tree.specs.Plain.SeqType as s
 use Rattle.campl_tree.specs.View.{view_seq, seq_types}
 use Rattle.campl_types.specs.Names.{Name, same_name, found, is_among, all_among}
 use Rattle.campl_types.specs.SameTest.{same_seq}
-use Rattle.campl_types.specs.Substitution.{Filling, variables_of, variables_of_all}
+use Rattle.campl_types.specs.Substitution.{Filling}
 use Rattle.campl_tree.proofs.Views.{seq_views}
-use Rattle.campl_matching.specs.Matching.{bound_names, is_known, matched, all_matched, bind, then_match, Matches}
+use Rattle.campl_matching.specs.Matching.{bound_names, matched, all_matched, bind, then_match, Matches}
 use Rattle.campl_matching.specs.Parts.{item_of, parts_of, named_parts}
-use Rattle.campl_types.specs.Filling.{view_filling}
-use Rattle.campl_types.proofs.Fillings.{found-view, view-behind}
+use Rattle.campl_names.specs.Filling.{view_filling}
+use Rattle.campl_names.proofs.Fillings.{found-view, view-behind}
 
 -- What is known
 
@@ -134,6 +134,26 @@ match-longer fill (d ∷ ds) (t ∷ ts) n = go (matched fill (view_seq d) (view_
     go None later = refl
     go (Some f) later = later f
 
-pub ruleset matching = (seq_views, match-Int, match-Char, match-Bool, match-List, match-Pair, match-Named, match-longer)
+-- What is bound stays, behind what was there
 
-pub ruleset variables = (found-view, view-behind, same-so)
+pub grown-none : {A : Type 0} → (xs : List A) → take (length xs) xs ≡ xs
+grown-none [] = refl
+grown-none (x ∷ xs) = ap (λ l. x ∷ l) (grown-none xs)
+
+pub grown-by : {A : Type 0} → (xs ys : List A) → take (length xs) (xs ++ ys) ≡ xs
+grown-by [] ys = refl
+grown-by (x ∷ xs) ys = ap (λ l. x ∷ l) (grown-by xs ys)
+
+pub grown-on : {A : Type 0} → (xs ys zs : List A) → take (length xs) ys ≡ xs → take (length ys) zs ≡ ys → take (length xs) zs ≡ xs
+grown-on [] ys zs i j = refl
+grown-on (x ∷ xs) [] zs i j = absurd (let none : ⊥ = cc in none)
+grown-on (x ∷ xs) (y ∷ ys) [] i j = absurd (let none : ⊥ = cc in none)
+grown-on (x ∷ xs) (y ∷ ys) (z ∷ zs) i j =
+    let first : z ≡ x = cc in
+    let before : take (length xs) ys ≡ xs = cc in
+    let behind : take (length ys) zs ≡ ys = cc in
+    rw first (ap (λ l. x ∷ l) (grown-on xs ys zs before behind))
+
+pub ruleset matching = (grown-none, grown-on, seq_views, match-Int, match-Char, match-Bool, match-List, match-Pair, match-Named, match-longer)
+
+pub ruleset variables = (grown-none, grown-by, found-view, view-behind, same-so)

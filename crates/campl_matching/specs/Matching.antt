@@ -1,12 +1,14 @@
 -- The type parameters of a function or constructor are bound by matching its declared types against types
 -- that are known.
-use Rattle.std.specs.Prelude.{◌≡◌, true, false, List, [], ◌∷◌, ◌++◌, Option, Some, None, if◌then◌else◌}
+use Rattle.std.specs.Prelude.{◌≡◌, true, false, List, [], ◌∷◌, ◌++◌, Option, Some, None, Result, Ok, Err, if◌then◌else◌}
 use Rattle.campl_tree.specs.Plain.SeqType.{SeqType, SeqTypes, Int, Char, Bool, Pair, Named, Variable, no_types, type_then}
 use Rattle.campl_tree.specs.Plain.SeqType as s
 use Rattle.campl_types.specs.Names.{Name, same_name, found, all_among}
 use Rattle.campl_types.specs.SameTest.{same_seq}
 use Rattle.campl_types.specs.Substitution.{Filling, variables_of}
 use Rattle.std.specs.Prelude.{map, Bool as Truth}
+use Rattle.std.specs.declared.alloc.AllocError.{AllocError}
+use Rattle.campl_names.specs.Filling.{Bound}
 
 -- the parameters that stand for something already
 abbrev pub bound_names : Filling → List Name
@@ -46,3 +48,9 @@ abbrev mutual
 abbrev pub Matches : Truth → Option Filling → Filling → Type 0
 Matches true match fill = match ≡ Some fill
 Matches false match fill = match ≡ None
+
+-- and where they don't match, or memory wants, what was there stays
+abbrev pub Stays : Result Truth AllocError → (before after : Bound) → Type 0
+Stays (Ok true) before after = Unit {0}
+Stays (Ok false) before after = after ≡ before
+Stays (Err fault) before after = after ≡ before

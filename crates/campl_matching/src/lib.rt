@@ -12,8 +12,6 @@
 
 mod matching;
 mod parts;
-#[cfg(test)]
-mod tests;
 
 pub use matching::{is_known, matched};
 pub use parts::{item_of, named_parts, parts_of};

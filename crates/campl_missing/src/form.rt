@@ -9,7 +9,6 @@ use sqlite_items::{Boxed, Items};
 use std::alloc::{AllocError, Global};
 
 /// What a pattern asks of a value.
-#[derive(Drop)]
 pub enum Form {
     /// `_`
     Anything,
@@ -28,6 +27,24 @@ pub enum Form {
     Built(Name, Items<Form>),
 }
 
+impl Drop for Form {
+    fn drop(self) {
+        match self {
+            Form::Anything | Form::Truth(_) | Form::Nil => {}
+            Form::Variable(x) => drop(x),
+            Form::Number(_) | Form::Character(_) => {}
+            Form::Cons(p, q) | Form::Pair(p, q) => {
+                drop(p);
+                drop(q);
+            }
+            Form::Built(x, ps) => {
+                drop(x);
+                drop(ps);
+            }
+        }
+    }
+}
+
 impl Form {
     /// A second copy of the form.
     #[cycle(copy)]
@@ -42,17 +59,46 @@ impl Form {
             Form::Truth(b) => Ok(Form::Truth(*b)),
             Form::Nil => Ok(Form::Nil),
             Form::Cons(p, q) => {
-                let head = Boxed::new(alloc, p.get().copy(alloc)?)?;
-                Ok(Form::Cons(head, Boxed::new(alloc, q.get().copy(alloc)?)?))
+                let head = match p.get().boxed_copy(alloc) {
+                    Ok(head) => head,
+                    Err(fault) => return Err(fault),
+                };
+                match q.get().boxed_copy(alloc) {
+                    Ok(tail) => Ok(Form::Cons(head, tail)),
+                    Err(fault) => Err(fault),
+                }
             }
             Form::Pair(p, q) => {
-                let first = Boxed::new(alloc, p.get().copy(alloc)?)?;
-                Ok(Form::Pair(first, Boxed::new(alloc, q.get().copy(alloc)?)?))
+                let first = match p.get().boxed_copy(alloc) {
+                    Ok(first) => first,
+                    Err(fault) => return Err(fault),
+                };
+                match q.get().boxed_copy(alloc) {
+                    Ok(second) => Ok(Form::Pair(first, second)),
+                    Err(fault) => Err(fault),
+                }
             }
             Form::Built(x, ps) => {
-                let name = x.copy(alloc)?;
-                Ok(Form::Built(name, Form::copy_all(alloc, ps.as_slice())?))
+                let parts = match Form::copy_all(alloc, ps.as_slice()) {
+                    Ok(parts) => parts,
+                    Err(fault) => return Err(fault),
+                };
+                match x.copy(alloc) {
+                    Ok(name) => Ok(Form::Built(name, parts)),
+                    Err(fault) => Err(fault),
+                }
             }
+        }
+    }
+
+    /// A second copy of the form, in a box.
+    #[cycle(copy)]
+    fn boxed_copy(&self, alloc: Global) -> Result<Boxed<Form>, AllocError>
+        ensures { IfOk result (λ p. p ≡ self.now) }
+    {
+        match self.copy(alloc) {
+            Ok(copy) => Boxed::new(alloc, copy),
+            Err(fault) => Err(fault),
         }
     }
 

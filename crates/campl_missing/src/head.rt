@@ -9,13 +9,12 @@ ghost use Rattle.campl_missing.specs.View.{view_form, view_forms, view_rows, vie
 ghost use Rattle.campl_missing.specs.Heads.{constructor_heads, data_heads};
 
 use crate::form::Form;
+use campl_names::{TypeRef, World, parts_at};
 use campl_tree::{DataConstructor, DataDecl, Name, SeqType};
-use campl_types::{TypeRef, World, parts_at};
 use sqlite_items::{Boxed, Items};
 use std::alloc::{AllocError, Global};
 
 /// What a value begins with, with the types of its parts.
-#[derive(Drop)]
 pub(crate) enum Head {
     Number(i128),
     Character(char),
@@ -26,6 +25,24 @@ pub(crate) enum Head {
     Built(Name, Items<SeqType>),
     /// What no literal of the column names.
     Other,
+}
+
+impl Drop for Head {
+    fn drop(self) {
+        match self {
+            Head::Number(_) | Head::Character(_) | Head::Truth(_) => {}
+            Head::Nil | Head::Other => {}
+            Head::Cons(t) => drop(t),
+            Head::Pair(t, u) => {
+                drop(t);
+                drop(u);
+            }
+            Head::Built(x, ts) => {
+                drop(x);
+                drop(ts);
+            }
+        }
+    }
 }
 
 impl Head {

@@ -14,8 +14,6 @@ mod head;
 mod opened;
 mod pattern;
 mod search;
-#[cfg(test)]
-mod tests;
 mod text;
 
 pub use form::Form;

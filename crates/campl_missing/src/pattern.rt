@@ -31,18 +31,47 @@ pub fn form_of(alloc: Global, p: &Pattern) -> Result<Form, AllocError>
         Pattern::True(_) => Ok(Form::Truth(true)),
         Pattern::False(_) => Ok(Form::Truth(false)),
         Pattern::Constructor(_, x, ps) => {
-            let name = x.copy(alloc)?;
-            Ok(Form::Built(name, part_forms(alloc, ps.as_slice())?))
+            let parts = match part_forms(alloc, ps.as_slice()) {
+                Ok(parts) => parts,
+                Err(fault) => return Err(fault),
+            };
+            match x.copy(alloc) {
+                Ok(name) => Ok(Form::Built(name, parts)),
+                Err(fault) => Err(fault),
+            }
         }
         Pattern::List(_, ps) => element_forms(alloc, ps.as_slice()),
         Pattern::Pair(_, p, q) => {
-            let first = Boxed::new(alloc, form_of(alloc, p.get())?)?;
-            Ok(Form::Pair(first, Boxed::new(alloc, form_of(alloc, q.get())?)?))
+            let first = match boxed_form(alloc, p.get()) {
+                Ok(first) => first,
+                Err(fault) => return Err(fault),
+            };
+            match boxed_form(alloc, q.get()) {
+                Ok(second) => Ok(Form::Pair(first, second)),
+                Err(fault) => Err(fault),
+            }
         }
         Pattern::Cons(_, p, q) => {
-            let head = Boxed::new(alloc, form_of(alloc, p.get())?)?;
-            Ok(Form::Cons(head, Boxed::new(alloc, form_of(alloc, q.get())?)?))
+            let head = match boxed_form(alloc, p.get()) {
+                Ok(head) => head,
+                Err(fault) => return Err(fault),
+            };
+            match boxed_form(alloc, q.get()) {
+                Ok(tail) => Ok(Form::Cons(head, tail)),
+                Err(fault) => Err(fault),
+            }
         }
+    }
+}
+
+/// The form of a pattern, in a box.
+#[cycle(form)]
+fn boxed_form(alloc: Global, p: &Pattern) -> Result<Boxed<Form>, AllocError>
+    ensures { IfOk result (λ f. view_form f ≡ forms.form_of (view_pattern p.now)) }
+{
+    match form_of(alloc, p) {
+        Ok(form) => Boxed::new(alloc, form),
+        Err(fault) => Err(fault),
     }
 }
 

@@ -5,7 +5,7 @@ ghost use Rattle.campl_grammar.specs.Rules.{read};
 ghost use Rattle.campl_grammar.specs.Names as name;
 ghost use Rattle.campl_parse_terms.specs.Reads.{Reads};
 
-use campl_grammar::Kind;
+use campl_lex::TokenKind;
 use campl_parse_terms::cursor::Cursor;
 use campl_parse_terms::error::ParseError;
 use campl_parse_terms::types::ctype;
@@ -25,7 +25,7 @@ pub fn links(
     ensures { Reads (adds found (read name.links depth cursor.old)) result cursor.new }
 {
     made!(found.push(read!(link(alloc, cursor, depth))));
-    match read!(cursor.take(Kind::Comma, depth)) {
+    match read!(cursor.take(TokenKind::Comma, depth)) {
         Some(_) => links(alloc, cursor, depth + 1, found),
         None => Ok(found),
     }
@@ -36,7 +36,7 @@ pub fn links(
 fn link(alloc: Global, cursor: &mut Cursor<'_>, depth: u32) -> Result<Link, ParseError>
     ensures { Reads (read name.link depth cursor.old) result cursor.new }
 {
-    let name = read!(cursor.lower_before(alloc, Kind::DoubleColon, depth));
+    let name = read!(cursor.lower_before(alloc, TokenKind::DoubleColon, depth));
     let channel_type = read!(ctype(alloc, cursor, depth));
     Ok(Link { name, channel_type })
 }

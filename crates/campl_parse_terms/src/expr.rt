@@ -22,7 +22,7 @@ use crate::error::ParseError;
 use crate::lines::block_behind;
 use crate::pattern::pattern;
 use crate::{made, read};
-use campl_grammar::Kind;
+use campl_lex::TokenKind;
 use campl_tree::{Expr, ExprRow, Place};
 use sqlite_items::{Boxed, Items};
 use std::alloc::Global;
@@ -56,7 +56,7 @@ pub fn exprs(
     ensures { Reads (adds found (read name.exprs depth cursor.old)) result cursor.new }
 {
     made!(found.push(read!(expr(alloc, cursor, depth))));
-    match read!(cursor.take(Kind::Comma, depth)) {
+    match read!(cursor.take(TokenKind::Comma, depth)) {
         Some(_) => exprs(alloc, cursor, depth + 1, found),
         None => Ok(found),
     }
@@ -79,7 +79,7 @@ pub fn expr(alloc: Global, cursor: &mut Cursor<'_>, depth: u32) -> Result<Expr, 
 fn without_case(alloc: Global, cursor: &mut Cursor<'_>, depth: u32) -> Result<Expr, ParseError>
     ensures { Reads (piece without_case_piece depth cursor.old) result cursor.new }
 {
-    if cursor.at(Kind::If) {
+    if cursor.at(TokenKind::If) {
         return if_expr(alloc, cursor, depth);
     }
     disjunction(alloc, cursor, depth)
@@ -126,7 +126,7 @@ fn erows(alloc: Global, cursor: &mut Cursor<'_>, depth: u32) -> Result<Items<Exp
     block_behind(
         alloc,
         cursor,
-        Kind::Of,
+        TokenKind::Of,
         depth,
         |cursor: &mut Cursor<'_>| -> Result<ExprRow, ParseError>
             requires { depth ≤ 200 }
@@ -142,7 +142,7 @@ fn erow(alloc: Global, cursor: &mut Cursor<'_>, depth: u32) -> Result<ExprRow, P
     ensures { Reads (read name.erow depth cursor.old) result cursor.new }
 {
     let pattern = read!(pattern(alloc, cursor, depth));
-    read!(cursor.expect(Kind::Arrow, depth));
+    read!(cursor.expect(TokenKind::Arrow, depth));
     let value = read!(expr(alloc, cursor, depth));
     Ok(ExprRow { pattern, value })
 }
@@ -153,11 +153,11 @@ fn erow(alloc: Global, cursor: &mut Cursor<'_>, depth: u32) -> Result<ExprRow, P
 fn if_expr(alloc: Global, cursor: &mut Cursor<'_>, depth: u32) -> Result<Expr, ParseError>
     ensures { Reads (read name.if_expr depth cursor.old) result cursor.new }
 {
-    let place = read!(cursor.expect(Kind::If, depth)).place();
+    let place = read!(cursor.expect(TokenKind::If, depth)).place();
     let test = read!(boxed_expr(alloc, cursor, depth + 1));
-    read!(cursor.expect(Kind::Then, depth + 1));
+    read!(cursor.expect(TokenKind::Then, depth + 1));
     let yes = read!(boxed_expr(alloc, cursor, depth + 1));
-    read!(cursor.expect(Kind::Else, depth + 1));
+    read!(cursor.expect(TokenKind::Else, depth + 1));
     let no = read!(boxed_expr(alloc, cursor, depth + 1));
     Ok(Expr::If(place, test, yes, no))
 }

@@ -1,7 +1,7 @@
 //! Lists of names, and what a process names for a value.
 ghost use Rattle.std.specs.Prelude.{◌≡◌};
 ghost use Rattle.campl_gram.specs.Reading.{adds, next_in};
-ghost use Rattle.campl_grammar.specs.Word.{terminals};
+ghost use Rattle.campl_grammar.specs.Terminal.{terminals};
 ghost use Rattle.campl_grammar.specs.Tables.{starts};
 ghost use Rattle.campl_grammar.specs.Rules.{read, piece, some_vars as some_vars_piece};
 ghost use Rattle.campl_grammar.specs.Names as name;
@@ -11,7 +11,7 @@ ghost use Rattle.campl_parse_terms.specs.Reads.{Reads};
 use crate::cursor::Cursor;
 use crate::error::ParseError;
 use crate::{made, read};
-use campl_grammar::Kind;
+use campl_lex::TokenKind;
 use campl_tree::{Binder, Ident};
 use sqlite_items::Items;
 use std::alloc::Global;
@@ -26,11 +26,11 @@ pub fn parameters(
     ensures { Reads (read name.parameters depth cursor.old) result cursor.new }
 {
     let none = Items::new(alloc);
-    if read!(cursor.take(Kind::LeftParen, depth)).is_none() {
+    if read!(cursor.take(TokenKind::LeftParen, depth)).is_none() {
         return Ok(none);
     }
     let found = read!(idents(alloc, cursor, depth + 1, none));
-    read!(cursor.expect(Kind::RightParen, depth + 1));
+    read!(cursor.expect(TokenKind::RightParen, depth + 1));
     Ok(found)
 }
 
@@ -40,7 +40,7 @@ pub fn names(alloc: Global, cursor: &mut Cursor<'_>, depth: u32) -> Result<Items
     ensures { Reads (read name.names depth cursor.old) result cursor.new }
 {
     let found = Items::new(alloc);
-    if !cursor.at(Kind::Lower) {
+    if !cursor.at(TokenKind::Lower) {
         return Ok(found);
     }
     idents(alloc, cursor, depth, found)
@@ -50,7 +50,7 @@ pub fn names(alloc: Global, cursor: &mut Cursor<'_>, depth: u32) -> Result<Items
 pub fn names_behind(
     alloc: Global,
     cursor: &mut Cursor<'_>,
-    kind: Kind,
+    kind: TokenKind,
     depth: u32,
 ) -> Result<Items<Ident>, ParseError>
     ensures { Reads (piece (names_behind_piece kind) depth cursor.old) result cursor.new }
@@ -70,7 +70,7 @@ pub fn idents(
     ensures { Reads (adds found (read name.idents depth cursor.old)) result cursor.new }
 {
     made!(found.push(read!(cursor.lower(alloc, depth))));
-    match read!(cursor.take(Kind::Comma, depth)) {
+    match read!(cursor.take(TokenKind::Comma, depth)) {
         Some(_) => idents(alloc, cursor, depth + 1, found),
         None => Ok(found),
     }
@@ -80,7 +80,7 @@ pub fn idents(
 fn starts_var(cursor: &Cursor<'_>) -> bool
     ensures { result ≡ next_in terminals (starts name.var) cursor.now }
 {
-    cursor.at_any(&[Kind::Lower, Kind::Wildcard])
+    cursor.at_any(&[TokenKind::Lower, TokenKind::Wildcard])
 }
 
 /// Names or `_` with commas between them, or none.
@@ -110,7 +110,7 @@ fn vars(
     ensures { Reads (adds found (read name.vars depth cursor.old)) result cursor.new }
 {
     made!(found.push(read!(var(alloc, cursor, depth))));
-    match read!(cursor.take(Kind::Comma, depth)) {
+    match read!(cursor.take(TokenKind::Comma, depth)) {
         Some(_) => vars(alloc, cursor, depth + 1, found),
         None => Ok(found),
     }
@@ -121,9 +121,9 @@ fn vars(
 pub fn var(alloc: Global, cursor: &mut Cursor<'_>, depth: u32) -> Result<Binder, ParseError>
     ensures { Reads (read name.var depth cursor.old) result cursor.new }
 {
-    if let Some(word) = read!(cursor.take(Kind::Lower, depth)) {
+    if let Some(word) = read!(cursor.take(TokenKind::Lower, depth)) {
         return Ok(Binder::Variable(word.place(), made!(word.name(alloc))));
     }
-    let word = read!(cursor.expect(Kind::Wildcard, depth));
+    let word = read!(cursor.expect(TokenKind::Wildcard, depth));
     Ok(Binder::Wildcard(word.place()))
 }

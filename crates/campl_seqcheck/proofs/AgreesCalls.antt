@@ -5,19 +5,23 @@ use Rattle.campl_tree.specs.Plain.SeqType.{SeqType, Variable}
 use Rattle.campl_tree.specs.Plain.Expr as e
 use Rattle.campl_tree.specs.Plain.Expr.{Expr, Exprs}
 use Rattle.campl_tree.specs.Plain.Decl.{FunctionDecl, DataDecl}
-use Rattle.campl_types.specs.Names.{Name, same_name, is_among, all_among, without, once}
-use Rattle.campl_types.proofs.Names.{same-is}
+use Rattle.campl_types.specs.Names.{Name, same_name, is_among, all_among, without, once, Within}
+use Rattle.campl_types.proofs.Names.{same-is, among-append}
 use Rattle.campl_types.specs.SameType.{IsSame, bare, nowhere}
 use Rattle.campl_types.specs.Substitution.{Filling, filling, filled, types_of, variables_of, variables_of_all}
 use Rattle.campl_types.specs.Fits.{Vars}
 use Rattle.campl_types.specs.World.{World, variables_of_list, type_parameters, names_of}
 use Rattle.campl_types.specs.Sequential.{Way, Found, Checked, HasType, PartsHaveTypes, whole}
-use Rattle.campl_seqcheck.specs.Judged.{Judged, Is, Fails, Fine, and_then, counted}
+use Rattle.campl_seqcheck.specs.declared.fault.SeqFault.{SeqFault}
+use Rattle.campl_seqcheck.specs.Judged.{Judged, Is, Fails, Fine, and_then}
+use Rattle.campl_seqcheck.specs.Fitting.{counted}
 use Rattle.campl_matching.specs.Matching.{bound_names, is_known, matched}
 use Rattle.campl_seqcheck.specs.Judging.{Wanted, meets, begun, all_bound, called, judge, judge_parts}
 use Rattle.campl_seqcheck.proofs.AgreesJudged.{in-turn, counts}
 use Rattle.campl_seqcheck.proofs.AgreesSame.{Meets, meets-is}
-use Rattle.campl_seqcheck.proofs.AgreesNames.{as-false, among-append, or-second, Within, SameNames, among-within, within-among, within-left, within-right, among-same, arguments_in, arguments-long, arguments-fill}
+use Rattle.campl_types.proofs.Truth.{as-false, or-second}
+use Rattle.campl_types.proofs.Among.{SameNames, among-within, within-among, within-left, within-right, among-same}
+use Rattle.campl_seqcheck.proofs.AgreesNames.{arguments_in, arguments-long, arguments-fill}
 use Rattle.campl_seqcheck.proofs.AgreesMatch.{Extends, extends-itself, extends-on, filled-kept, bound-then, match-fills}
 use Rattle.campl_seqcheck.proofs.AgreesStable.{type-stable}
 
@@ -46,7 +50,7 @@ without-among x y (z ∷ zs) i = go (same_name y z) refl (without-among x y zs i
     go true e later = let d : same_name x z ≡ false = subst (λ v. same_name x v ≡ false) (same-is y z e) i in rw d later
     go false e later = ap (λ b. same_name x z || b) later
 
-once-among : (x : Name) (ys : List Name) → is_among x (once ys) ≡ is_among x ys
+pub once-among : (x : Name) (ys : List Name) → is_among x (once ys) ≡ is_among x ys
 once-among x [] = refl
 once-among x (y ∷ ys) = go (same_name x y) refl (once-among x ys)
   where
@@ -88,7 +92,7 @@ pub record PartsFound (f : Filling) (types : List SeqType) (g : Filling) (Parts 
   pub extends : Extends f (variables_of_list types) g
   pub typed : (h : Filling) (known : List Name) → SameNames known (bound_names f) → FillAlike h g types → Parts h known
 
-pub no-parts : (f g : Filling) (Parts : Filling → List Name → Type 0) → ((h : Filling) (known : List Name) → Parts h known) → Is f ≡ Is g → PartsFound f [] g Parts
+pub no-parts : (f g : Filling) (Parts : Filling → List Name → Type 0) → ((h : Filling) (known : List Name) → Parts h known) → ◌≡◌ {A = Judged SeqFault Filling} (Is f) (Is g) → PartsFound f [] g Parts
 no-parts f g Parts all i =
     let k : f ≡ g = cc i in
     subst (λ h. PartsFound f [] h Parts) k (record { extends = extends-itself f [] (λ x j. absurd (true≢false (sym j))); typed = λ h known j m. all h known })
@@ -98,7 +102,7 @@ known-part : (w : World) (vs : Vars) (f : Filling) (t : SeqType) (ts : List SeqT
     → judge_parts w vs f (t ∷ ts) (e.expr_then a rest) ≡ Is g → (u : SeqType) × (judge w vs a (Some (filled f t)) ≡ Is u) × (judge_parts w vs f ts rest ≡ Is g)
 known-part w vs f t ts a rest g k i = go (judge w vs a (Some (filled f t))) refl
   where
-    go : (j : Judged SeqType) → judge w vs a (Some (filled f t)) ≡ j → (u : SeqType) × (judge w vs a (Some (filled f t)) ≡ Is u) × (judge_parts w vs f ts rest ≡ Is g)
+    go : (j : Judged SeqFault SeqType) → judge w vs a (Some (filled f t)) ≡ j → (u : SeqType) × (judge w vs a (Some (filled f t)) ≡ Is u) × (judge_parts w vs f ts rest ≡ Is g)
     go (Is u) m = (u, m, rw (k, m) at i)
     go (Fails fault) m = absurd (cc (rw (k, m) at i))
 
@@ -108,7 +112,7 @@ open-part : (w : World) (vs : Vars) (f : Filling) (t : SeqType) (ts : List SeqTy
     → (u : SeqType) × (next : Filling) × (judge w vs a None ≡ Is u) × (matched f t u ≡ Some next) × (judge_parts w vs next ts rest ≡ Is g)
 open-part w vs f t ts a rest g k i = go (judge w vs a None) refl
   where
-    go : (j : Judged SeqType) → judge w vs a None ≡ j → (u : SeqType) × (next : Filling) × (judge w vs a None ≡ Is u) × (matched f t u ≡ Some next) × (judge_parts w vs next ts rest ≡ Is g)
+    go : (j : Judged SeqFault SeqType) → judge w vs a None ≡ j → (u : SeqType) × (next : Filling) × (judge w vs a None ≡ Is u) × (matched f t u ≡ Some next) × (judge_parts w vs next ts rest ≡ Is g)
     go (Fails fault) m = absurd (cc (rw (k, m) at i))
     go (Is u) m = match (matched f t u) refl
       where
@@ -203,7 +207,7 @@ tell-all None parameters types result f g i b j =
     go x false k m = m
 tell-all (Some t) parameters types result f g i b j = tt
 
-pub called-typed : (at : Place) (parameters : List Name) (number : ℕ) (types : List SeqType) (result : SeqType) (wanted : Wanted) (u : SeqType) (parts : Filling → Judged Filling) (Parts : Filling → List Name → Type 0)
+pub called-typed : (at : Place) (parameters : List Name) (number : ℕ) (types : List SeqType) (result : SeqType) (wanted : Wanted) (u : SeqType) (parts : Filling → Judged SeqFault Filling) (Parts : Filling → List Name → Type 0)
     → Declares parameters types result → ((f g : Filling) → number ≡ length types → parts f ≡ Is g → PartsFound f types g Parts)
     → called at parameters number types result wanted parts ≡ Is u → IsCalled (way_for wanted) parameters types result u Parts × Meets wanted u
 called-typed at parameters number types result wanted u parts Parts declares each i =

@@ -7,7 +7,6 @@ pub mod AgreesStable
 pub mod AgreesCalls
 pub mod AgreesWanted
 pub mod AgreesSound
-pub mod AgreesWorlds
 pub mod AgreesAlike
 pub mod AgreesRefit
 pub mod AgreesMissing

@@ -7,7 +7,7 @@ use Rattle.campl_tree.specs.Plain.SeqType.{SeqType, Int, Char, Bool, Named, Vari
 use Rattle.campl_tree.specs.Plain.SeqType as s
 use Rattle.campl_tree.specs.Plain.Expr as e
 use Rattle.campl_tree.specs.Plain.Expr.{Expr, Exprs, ExprRows}
-use Rattle.campl_tree.specs.Plain.Decl.{FunctionDecl, DataDecl, DataConstructor}
+use Rattle.campl_tree.specs.Plain.Decl.{FunctionDecl}
 use Rattle.campl_types.specs.Names.{Name, found, all_among}
 use Rattle.campl_types.specs.Substitution.{Filling, filled}
 use Rattle.campl_types.specs.SameTest.{same_seq}
@@ -18,46 +18,47 @@ use Rattle.campl_types.specs.Fits.{Vars}
 use Rattle.campl_types.specs.World.{World, ConstructorEntry, OfData, OfProtocol, OfCoprotocol, constructor_named, function_named, names_of, type_parameters}
 use Rattle.campl_shown.specs.Types.{type_text, type_text_at}
 use Rattle.campl_missing.specs.Texts.{forms_text}
+use Rattle.campl_seqcheck.specs.declared.fault.SeqFault.{SeqFault}
 use Rattle.campl_seqcheck.specs.declared.fault.SeqFault.TheVariants.{TypeDiffers, NeedsType, NotExhaustive}
-use Rattle.campl_seqcheck.specs.Judged.{Judged, Is, Fails, Fine, fine, and_then, counted}
+use Rattle.campl_seqcheck.specs.Judged.{Judged, Is, Fails, Fine, fine, and_then}
 use Rattle.campl_matching.specs.Matching.{bound_names, is_known, matched}
-use Rattle.campl_seqcheck.specs.Fitting.{item_type, pair_types, fit}
+use Rattle.campl_seqcheck.specs.Fitting.{counted, item_type, pair_types, fit}
 
 -- the type that is wanted, if one is
 abbrev pub Wanted : Type 0
 Wanted = Option SeqType
 
 -- an expression of this type, compared with the type that is wanted
-abbrev pub meets : Place → Wanted → SeqType → Judged SeqType
+abbrev pub meets : Place → Wanted → SeqType → Judged SeqFault SeqType
 meets at None u = Is u
 meets at (Some t) u = if same_seq u t then Is u else Fails (TypeDiffers at (type_text u) (type_text t))
 
 -- Lists and pairs
 
-abbrev given : {A : Type 0} → A → Judged (Option A)
+abbrev given : {A : Type 0} → A → Judged SeqFault (Option A)
 given x = Is (Some x)
 
 -- what is wanted of a list's elements
-abbrev pub wanted_item : Place → Wanted → Judged Wanted
+abbrev pub wanted_item : Place → Wanted → Judged SeqFault Wanted
 wanted_item at None = Is None
 wanted_item at (Some t) = and_then (item_type at t) given
 
 -- what is wanted of a pair's parts
-abbrev pub wanted_parts : Place → Wanted → Judged (Wanted × Wanted)
+abbrev pub wanted_parts : Place → Wanted → Judged SeqFault (Wanted × Wanted)
 wanted_parts at None = Is (None, None)
 wanted_parts at (Some t) = and_then (pair_types at t) (λ u. Is (Some u.0, Some u.1))
 
-abbrev pub empty_list : Place → Wanted → Judged SeqType
+abbrev pub empty_list : Place → Wanted → Judged SeqFault SeqType
 empty_list at None = Fails (NeedsType at)
 empty_list at (Some t) = and_then (item_type at t) (λ u. Is (s.List u))
 
 -- what stands before a `++` has a list type
-abbrev pub a_list : Place → SeqType → Judged Fine
+abbrev pub a_list : Place → SeqType → Judged SeqFault Fine
 a_list at (s.List t) = Is fine
 a_list at t = Fails (TypeDiffers at (type_text t) (codes "[_]"))
 
 -- what stands before a comparison has a type whose values can be compared
-abbrev pub a_comparable : Place → SeqType → Judged Fine
+abbrev pub a_comparable : Place → SeqType → Judged SeqFault Fine
 a_comparable at Int = Is fine
 a_comparable at Char = Is fine
 a_comparable at Bool = Is fine
@@ -67,45 +68,45 @@ a_comparable at t = Fails (TypeDiffers at (type_text t) (codes "Int, Char, Bool 
 -- Variables
 
 -- a variable that isn't known: names are judged before, so it is in no well declared source
-abbrev pub variable_type : Place → Option SeqType → Judged SeqType
+abbrev pub variable_type : Place → Option SeqType → Judged SeqFault SeqType
 variable_type at (Some t) = Is t
 variable_type at None = Fails (NeedsType at)
 
 -- Calls
 
-abbrev no_match : {A : Type 0} → Place → Filling → (declared t : SeqType) → Judged A
+abbrev pub no_match : {A : Type 0} → Place → Filling → (declared t : SeqType) → Judged SeqFault A
 no_match at fill declared t = Fails (TypeDiffers at (type_text_at fill declared) (type_text t))
 
-abbrev begun_so : Place → (result t : SeqType) → Option Filling → Judged Filling
+abbrev pub begun_so : Place → (result t : SeqType) → Option Filling → Judged SeqFault Filling
 begun_so at result t None = no_match at [] result t
 begun_so at result t (Some fill) = Is fill
 
 -- what the parameters stand for before the parts are judged; a call without parameters is compared when it is found
-abbrev pub begun : Place → List Name → (result : SeqType) → Wanted → Judged Filling
+abbrev pub begun : Place → List Name → (result : SeqType) → Wanted → Judged SeqFault Filling
 begun at [] result wanted = Is []
 begun at (x ∷ xs) result None = Is []
 begun at (x ∷ xs) result (Some t) = begun_so at result t (matched [] result t)
 
 -- a part's type that was found, matched against its declared type
-abbrev pub found_so : Place → Filling → (declared t : SeqType) → Option Filling → Judged Filling
+abbrev pub found_so : Place → Filling → (declared t : SeqType) → Option Filling → Judged SeqFault Filling
 found_so at fill declared t None = Fails (TypeDiffers at (type_text t) (type_text_at fill declared))
 found_so at fill declared t (Some next) = Is next
 
 -- in the end each parameter stands for something
-abbrev pub all_bound : Place → List Name → Filling → Judged Fine
+abbrev pub all_bound : Place → List Name → Filling → Judged SeqFault Fine
 all_bound at parameters fill = if all_among parameters (bound_names fill) then Is fine else Fails (NeedsType at)
 
-abbrev pub called : Place → List Name → (number : ℕ) → List SeqType → (result : SeqType) → Wanted → (Filling → Judged Filling) → Judged SeqType
+abbrev pub called : Place → List Name → (number : ℕ) → List SeqType → (result : SeqType) → Wanted → (Filling → Judged SeqFault Filling) → Judged SeqFault SeqType
 called at parameters number types result wanted judge_parts =
     and_then (counted at number (length types)) (λ _. and_then (begun at parameters result wanted) (λ start. and_then (judge_parts start) (λ fill.
     and_then (all_bound at parameters fill) (λ _. meets at wanted (filled fill result)))))
 
 -- a name of no function or of no data type's constructor is in no well declared source
-abbrev pub called_function : Place → Option FunctionDecl → (number : ℕ) → Wanted → (List SeqType → Filling → Judged Filling) → Judged SeqType
+abbrev pub called_function : Place → Option FunctionDecl → (number : ℕ) → Wanted → (List SeqType → Filling → Judged SeqFault Filling) → Judged SeqFault SeqType
 called_function at (Some f) number wanted judge_parts = called at (type_parameters f) number f.parameters f.result wanted (judge_parts f.parameters)
 called_function at None number wanted judge_parts = Fails (NeedsType at)
 
-abbrev pub called_constructor : Place → Option ConstructorEntry → (number : ℕ) → Wanted → (List SeqType → Filling → Judged Filling) → Judged SeqType
+abbrev pub called_constructor : Place → Option ConstructorEntry → (number : ℕ) → Wanted → (List SeqType → Filling → Judged SeqFault Filling) → Judged SeqFault SeqType
 called_constructor at (Some (OfData d n k)) number wanted judge_parts =
     called at (names_of d.parameters) number k.parts (whole d) wanted (judge_parts k.parts)
 called_constructor at (Some (OfProtocol d n k)) number wanted judge_parts = Fails (NeedsType at)
@@ -114,16 +115,16 @@ called_constructor at None number wanted judge_parts = Fails (NeedsType at)
 
 -- Rows
 
-abbrev covered : Place → Option (List Form) → Judged Fine
+abbrev covered : Place → Option (List Form) → Judged SeqFault Fine
 covered at None = Is fine
 covered at (Some ps) = Fails (NotExhaustive at (forms_text ps))
 
 -- no value of the types is missing
-abbrev pub exhaustive : Place → World → List Row → List SeqType → Judged Fine
+abbrev pub exhaustive : Place → World → List Row → List SeqType → Judged SeqFault Fine
 exhaustive at w rows ts = covered at (missing w rows ts)
 
 -- the patterns of rows
-abbrev pub fit_rows : World → ExprRows → SeqType → Judged Fine
+abbrev pub fit_rows : World → ExprRows → SeqType → Judged SeqFault Fine
 fit_rows w e.no_expr_rows t = Is fine
 fit_rows w (e.expr_row_then p a rows) t = and_then (fit w [] p t) (λ _. fit_rows w rows t)
 
@@ -134,7 +135,7 @@ count_of e.no_exprs = 0
 count_of (e.expr_then a rest) = suc (count_of rest)
 
 abbrev mutual
-  pub judge : World → Vars → Expr → Wanted → Judged SeqType
+  pub judge : World → Vars → Expr → Wanted → Judged SeqFault SeqType
   judge w vs (e.Number at n) wanted = meets at wanted Int
   judge w vs (e.Character at c) wanted = meets at wanted Char
   judge w vs (e.Text at text) wanted = meets at wanted (s.List Char)
@@ -170,12 +171,12 @@ abbrev mutual
       called_constructor at (constructor_named w x) (count_of args) wanted (λ types start. judge_parts w vs start types args)
 
   -- elements of one type
-  pub judge_each : World → Vars → Exprs → SeqType → Judged Fine
+  pub judge_each : World → Vars → Exprs → SeqType → Judged SeqFault Fine
   judge_each w vs e.no_exprs t = Is fine
   judge_each w vs (e.expr_then a rest) t = and_then (judge w vs a (Some t)) (λ _. judge_each w vs rest t)
 
   -- the parts of a call, one for each type: checked where each parameter of its type stands for something, and found otherwise
-  pub judge_parts : World → Vars → Filling → List SeqType → Exprs → Judged Filling
+  pub judge_parts : World → Vars → Filling → List SeqType → Exprs → Judged SeqFault Filling
   judge_parts w vs fill [] args = Is fill
   judge_parts w vs fill (t ∷ ts) e.no_exprs = Is fill
   judge_parts w vs fill (t ∷ ts) (e.expr_then a rest) =
@@ -184,12 +185,16 @@ abbrev mutual
       else and_then (judge w vs a None) (λ u. and_then (found_so (expr_place a) fill t u (matched fill t u)) (λ next. judge_parts w vs next ts rest))
 
   -- the values of rows whose patterns fit the first type: the first as is wanted, the others like it
-  pub judge_rows : Place → World → Vars → ExprRows → SeqType → Wanted → Judged SeqType
+  pub judge_rows : Place → World → Vars → ExprRows → SeqType → Wanted → Judged SeqFault SeqType
   judge_rows at w vs e.no_expr_rows t wanted = Fails (NeedsType at)
   judge_rows at w vs (e.expr_row_then p a rows) t wanted =
       and_then (fit w [] p t) (λ xs. and_then (judge w (xs ++ vs) a wanted) (λ u. and_then (judge_more w vs rows t u) (λ _. Is u)))
 
-  pub judge_more : World → Vars → ExprRows → SeqType → SeqType → Judged Fine
+  pub judge_more : World → Vars → ExprRows → SeqType → SeqType → Judged SeqFault Fine
   judge_more w vs e.no_expr_rows t u = Is fine
   judge_more w vs (e.expr_row_then p a rows) t u =
       and_then (fit w [] p t) (λ xs. and_then (judge w (xs ++ vs) a (Some u)) (λ _. judge_more w vs rows t u))
+
+-- whether an expression may be checked against a type, where what is found isn't asked for
+abbrev pub checked : World → Vars → Expr → SeqType → Judged SeqFault Fine
+checked w vs a t = and_then (judge w vs a (Some t)) (λ _. Is fine)

@@ -11,8 +11,6 @@
 
 mod channels;
 mod shown;
-#[cfg(test)]
-mod tests;
 mod types;
 mod variables;
 

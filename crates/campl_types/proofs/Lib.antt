@@ -1,31 +1,24 @@
+pub mod Truth
 pub mod Names
-mod Trees
-pub mod Judged
-pub mod Sets
-pub mod Entries
-pub mod Declared
-pub mod Scopes
-pub mod Judging
-pub mod Heads
-pub mod Preludes
-pub mod Runs
-pub mod Wholes
-pub mod Acts
-pub mod Letters
-pub mod Plugs
-mod Unlike
-mod UnlikeChan
+pub mod Among
+pub mod Listed
 pub mod SameType
-mod TwoEnds
-pub mod Fillings
 pub mod DeclaredOnce
+pub mod PartsKnown
+pub mod Lowers
+pub mod Bare
+pub mod Deeds
+pub mod EachOnce
+pub mod ChoiceNumbers
 pub mod Turned
+pub mod Compose
+pub mod SameValue
 pub mod Instances
 pub mod Missing
+pub mod TypedRows
 pub mod MissingUnfolds
 mod FreeCommands
-mod FreeParts
-pub mod OfferedRows
+pub mod FreeParts
+pub mod Times
 pub mod FreeNames
 pub mod Forked
-mod Examples

@@ -1,6 +1,11 @@
 -- Names, and what is found by a name.
-use Rattle.std.specs.Prelude.{ℕ, Bool, true, false, ◌&&◌, ◌||◌, not, List, [], ◌∷◌, Option, Some, None, if◌then◌else◌, nat_eq}
+use Rattle.std.specs.Prelude.{◌≡◌, ℕ, Bool, true, false, ◌&&◌, ◌||◌, not, List, [], ◌∷◌, Option, Some, None, if◌then◌else◌, nat_eq}
 use Rattle.std.specs.Cmp.Lexicographic.{pointwise}
+
+-- whether there is none
+abbrev pub is_empty : {A : Type 0} → List A → Bool
+is_empty [] = true
+is_empty (x ∷ xs) = false
 
 -- a name is its characters
 abbrev pub Name : Type 0
@@ -34,3 +39,7 @@ without x (y ∷ ys) = if same_name x y then without x ys else y ∷ without x y
 abbrev pub once : List Name → List Name
 once [] = []
 once (x ∷ xs) = x ∷ without x (once xs)
+
+-- each of these names is among those
+abbrev pub Within : List Name → List Name → Type 0
+Within ks bs = (x : Name) → is_among x ks ≡ true → is_among x bs ≡ true

@@ -6,3 +6,5 @@ pub mod Falls
 pub mod Made
 pub mod Text
 pub mod Compare
+pub mod Messages
+pub mod Shown

@@ -2,8 +2,6 @@
 use Rattle.std.proofs.Common.{append_assoc, length-append, get_or, take, drop, ◌-◌, ◌≤◌, ◌≡◌, ◌∙◌, refl, sym, ap, subst, ℕ, zero, suc, ◌+◌, ◌<◌, Bool, true, false, ◌||◌, cond, List, [], ◌∷◌, ◌++◌, reverse, map, length, Option, Some, None, is_some, option_map, slice_get, if◌then◌else◌, arith}
 use Rattle.std.specs.Map.{lookup}
 use Rattle.std.proofs.lemmas.List.{reverse-append, reverse-reverse, length-reverse}
-use Rattle.campl_tree.specs.declared.types.SeqType as declared
-use Rattle.campl_tree.specs.Plain.SeqType.{SeqType}
 use Rattle.campl_tree.specs.View.{view_seq}
 use Rattle.campl_types.specs.Names.{Name, same_name, found, is_among}
 use Rattle.campl_types.proofs.Names.{same-turned}
@@ -103,6 +101,6 @@ below (x ∷ xs) ys =
     let e : suc (length (xs ++ ys)) - length ys ≡ suc (length (xs ++ ys) - length ys) = let l : length (xs ++ ys) ≡ length xs + length ys = length-append xs ys in omega (arith, l) in
     rw e (below xs ys)
 
-pub ruleset appending = (taken-more, append_assoc)
+pub ruleset appending = (taken-more, append_assoc, below)
 
 pub ruleset truncating = (one-less, none-less, fewer)

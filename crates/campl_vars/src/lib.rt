@@ -10,8 +10,6 @@
 //! ```
 #![tactic(auto)]
 
-#[cfg(test)]
-mod tests;
 mod vars;
 
 pub use vars::Vars;

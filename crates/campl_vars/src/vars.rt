@@ -1,5 +1,5 @@
 //! The variables in scope.
-ghost use Rattle.std.specs.Prelude.{◌≡◌, ℕ, ◌-◌, List, ◌++◌, [], ◌∷◌, OnOk, IsSome, cond, drop, length, option_map, reverse};
+ghost use Rattle.std.specs.Prelude.{◌≡◌, ℕ, ◌-◌, List, ◌++◌, [], ◌∷◌, OnErr, OnOk, IsSome, cond, drop, length, option_map, reverse};
 ghost use Rattle.std.specs.Map.{lookup};
 ghost use Rattle.std.specs.Option.{option_copied};
 ghost use Rattle.campl_tree.specs.View.{view_seq};
@@ -84,8 +84,13 @@ impl Vars {
     }
 
     /// Binds a name, which hides earlier ones.
+    ///
+    /// # Errors
+    ///
+    /// `AllocError` where memory wants: the variables are what they were.
     pub fn bind(&mut self, alloc: Global, name: &Name, seq_type: SeqType) -> Result<(), AllocError>
-        ensures { OnOk result (self.new ≡ (name.now, seq_type) ∷ self.old) }
+        ensures ok { OnOk result (self.new ≡ (name.now, seq_type) ∷ self.old) }
+        ensures err { OnErr result (self.new ≡ self.old) }
     {
         let key = name.copy(alloc)?;
         let name = name.copy(alloc)?;
@@ -104,16 +109,27 @@ impl Vars {
     }
 
     /// Binds the variables of others, which hide those of the same names.
+    ///
+    /// # Errors
+    ///
+    /// `AllocError` where memory wants: the variables are what they were.
     pub fn append(&mut self, alloc: Global, newer: &Vars) -> Result<(), AllocError>
-        ensures { OnOk result (self.new ≡ newer.now ++ self.old) }
+        ensures ok { OnOk result (self.new ≡ newer.now ++ self.old) }
+        ensures err { OnErr result (self.new ≡ self.old) }
     {
-        self.bind_all(alloc, newer.bindings.as_slice())
+        let len = self.len();
+        let appended = self.bind_all(alloc, newer.bindings.as_slice());
+        if appended.is_err() {
+            self.truncate(len);
+        }
+        appended
     }
 
-    /// Binds variables, the oldest first.
+    /// Binds variables, the oldest first. Where memory wants, some of them are bound.
     #[tactic(auto, using(crate::proofs::Variables::appending))]
     fn bind_all(&mut self, alloc: Global, bindings: &[Binding]) -> Result<(), AllocError>
-        ensures { OnOk result (self.new ≡ bound (reverse bindings.now) ++ self.old) }
+        ensures ok { OnOk result (self.new ≡ bound (reverse bindings.now) ++ self.old) }
+        ensures err { OnErr result (drop (length self.new - length self.old) self.new ≡ self.old) }
     {
         for i in 0..bindings.len() {
             let seq_type = bindings[i].seq_type.copy(alloc)?;

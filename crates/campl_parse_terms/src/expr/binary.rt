@@ -12,7 +12,7 @@ use crate::expr::operators::{
     addition, comparison, multiplication, starts_comparison, starts_factors, starts_terms,
 };
 use crate::{made, read};
-use campl_grammar::Kind;
+use campl_lex::TokenKind;
 use campl_tree::{Expr, Place};
 use sqlite_items::Boxed;
 use std::alloc::Global;
@@ -25,7 +25,7 @@ pub fn disjunction(alloc: Global, cursor: &mut Cursor<'_>, depth: u32) -> Result
 {
     let place = cursor.place();
     let left = read!(conjunction(alloc, cursor, depth));
-    if read!(cursor.take(Kind::Or, depth)).is_none() {
+    if read!(cursor.take(TokenKind::Or, depth)).is_none() {
         return Ok(left);
     }
     let right = read!(disjunction(alloc, cursor, depth + 1));
@@ -44,7 +44,7 @@ fn conjunction(alloc: Global, cursor: &mut Cursor<'_>, depth: u32) -> Result<Exp
 {
     let place = cursor.place();
     let left = read!(cmp(alloc, cursor, depth));
-    if read!(cursor.take(Kind::And, depth)).is_none() {
+    if read!(cursor.take(TokenKind::And, depth)).is_none() {
         return Ok(left);
     }
     let right = read!(conjunction(alloc, cursor, depth + 1));
@@ -84,10 +84,10 @@ fn joined(alloc: Global, cursor: &mut Cursor<'_>, depth: u32) -> Result<Expr, Pa
 {
     let place = cursor.place();
     let left = read!(sum(alloc, cursor, depth));
-    if cursor.at(Kind::Colon) {
+    if cursor.at(TokenKind::Colon) {
         return cons(alloc, cursor, depth, place, left);
     }
-    if cursor.at(Kind::Append) {
+    if cursor.at(TokenKind::Append) {
         return append(alloc, cursor, depth, place, left);
     }
     Ok(left)
@@ -104,7 +104,7 @@ fn cons(
 ) -> Result<Expr, ParseError>
     ensures { Reads (joins place left (piece cons_tail depth cursor.old)) result cursor.new }
 {
-    read!(cursor.expect(Kind::Colon, depth));
+    read!(cursor.expect(TokenKind::Colon, depth));
     let right = read!(joined(alloc, cursor, depth + 1));
     Ok(Expr::Cons(
         place,
@@ -124,7 +124,7 @@ fn append(
 ) -> Result<Expr, ParseError>
     ensures { Reads (joins place left (piece append_tail depth cursor.old)) result cursor.new }
 {
-    read!(cursor.expect(Kind::Append, depth));
+    read!(cursor.expect(TokenKind::Append, depth));
     let right = read!(joined(alloc, cursor, depth + 1));
     Ok(Expr::Append(
         place,
@@ -213,7 +213,7 @@ fn factors(
 fn unary(alloc: Global, cursor: &mut Cursor<'_>, depth: u32) -> Result<Expr, ParseError>
     ensures { Reads (read name.unary depth cursor.old) result cursor.new }
 {
-    let Some(minus) = read!(cursor.take(Kind::Minus, depth)) else {
+    let Some(minus) = read!(cursor.take(TokenKind::Minus, depth)) else {
         return atom(alloc, cursor, depth);
     };
     let inner = read!(unary(alloc, cursor, depth + 1));
