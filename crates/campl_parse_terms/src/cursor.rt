@@ -1,12 +1,12 @@
 //! The words that are still to read.
-ghost use Rattle.std.specs.Prelude.{◌≡◌, ◌≤◌, [], ◌∷◌, OnOk, IfOk, OnSome, MatchOption, MatchResult, IsTrue, true, false, ◌↔◌, length};
+ghost use Rattle.std.specs.Prelude.{◌≡◌, ◌≤◌, [], ◌∷◌, OnOk, IfOk, OnSome, MatchResult, IsTrue, ◌↔◌, length};
 ghost use Rattle.campl_gram.specs.Reading.{next_in, expect};
 ghost use Rattle.campl_gram.specs.Grammar.{place_at};
 ghost use Rattle.campl_lex.specs.Kinds.{same};
 ghost use Rattle.campl_grammar.specs.Terminal.{terminals};
 ghost use Rattle.campl_grammar.specs.Rules.{piece, lower, upper, limit};
 ghost use Rattle.campl_parse_terms.specs.Pieces.{choice, lower_before, upper_before};
-ghost use Rattle.campl_parse_terms.specs.Reads.{Reads, Fails};
+ghost use Rattle.campl_parse_terms.specs.Reads.{Reads, Fails, Takes};
 
 use crate::error::ParseError;
 use crate::{made, read};
@@ -118,7 +118,7 @@ impl<'a> Cursor<'a> {
         kind: TokenKind,
         depth: u32,
     ) -> Result<Option<&'a Terminal<'a>>, ParseError>
-        ensures reads { MatchResult result (λ found. MatchOption found ((next_in terminals (kind ∷ []) self.old ≡ false) × (self.new ≡ self.old)) (λ word. (next_in terminals (kind ∷ []) self.old ≡ true) × (expect terminals limit kind depth self.old ≡ (Ok word.now, self.new)))) (λ e. (next_in terminals (kind ∷ []) self.old ≡ true) × Fails (expect terminals limit kind depth self.old) e self.new) }
+        ensures reads { Takes kind depth self.old result self.new }
         ensures shallow { IfOk result (λ found. OnSome found (depth ≤ 200)) }
     {
         if !self.at(kind) {

@@ -1,10 +1,10 @@
 //! Lists of names, and what a process names for a value.
-ghost use Rattle.std.specs.Prelude.{◌≡◌, OnOk, ◌≤◌};
+ghost use Rattle.std.specs.Prelude.{◌≡◌};
 ghost use Rattle.campl_gram.specs.Reading.{adds, next_in};
 ghost use Rattle.campl_grammar.specs.Terminal.{terminals};
 ghost use Rattle.campl_grammar.specs.Tables.{starts};
 ghost use Rattle.campl_grammar.specs.Rules.{read, piece, some_vars as some_vars_piece};
-ghost use Rattle.campl_grammar.specs.Names.{parameters as parameters_name, names as names_name, idents as idents_name, vars as vars_name, var as var_name};
+ghost use Rattle.campl_grammar.specs.Names as name;
 ghost use Rattle.campl_parse_terms.specs.Pieces.{names_behind as names_behind_piece};
 ghost use Rattle.campl_parse_terms.specs.Reads.{Reads};
 
@@ -23,7 +23,7 @@ pub fn parameters(
     cursor: &mut Cursor<'_>,
     depth: u32,
 ) -> Result<Items<Ident>, ParseError>
-    ensures { Reads (read parameters_name depth cursor.old) result cursor.new }
+    ensures { Reads (read name.parameters depth cursor.old) result cursor.new }
 {
     let none = Items::new(alloc);
     if read!(cursor.take(TokenKind::LeftParen, depth)).is_none() {
@@ -37,7 +37,7 @@ pub fn parameters(
 /// Names with commas between them, or none.
 #[tactic(auto, using(campl_grammar::proofs::ByRule::reads_names, campl_gram::proofs::Lists::adds_none))]
 pub fn names(alloc: Global, cursor: &mut Cursor<'_>, depth: u32) -> Result<Items<Ident>, ParseError>
-    ensures { Reads (read names_name depth cursor.old) result cursor.new }
+    ensures { Reads (read name.names depth cursor.old) result cursor.new }
 {
     let found = Items::new(alloc);
     if !cursor.at(TokenKind::Lower) {
@@ -67,7 +67,7 @@ pub fn idents(
     depth: u32,
     mut found: Items<Ident>,
 ) -> Result<Items<Ident>, ParseError>
-    ensures { Reads (adds found (read idents_name depth cursor.old)) result cursor.new }
+    ensures { Reads (adds found (read name.idents depth cursor.old)) result cursor.new }
 {
     made!(found.push(read!(cursor.lower(alloc, depth))));
     match read!(cursor.take(TokenKind::Comma, depth)) {
@@ -78,7 +78,7 @@ pub fn idents(
 
 /// Whether a name or `_` is the next word.
 fn starts_var(cursor: &Cursor<'_>) -> bool
-    ensures { result ≡ next_in terminals (starts var_name) cursor.now }
+    ensures { result ≡ next_in terminals (starts name.var) cursor.now }
 {
     cursor.at_any(&[TokenKind::Lower, TokenKind::Wildcard])
 }
@@ -107,7 +107,7 @@ fn vars(
     depth: u32,
     mut found: Items<Binder>,
 ) -> Result<Items<Binder>, ParseError>
-    ensures { Reads (adds found (read vars_name depth cursor.old)) result cursor.new }
+    ensures { Reads (adds found (read name.vars depth cursor.old)) result cursor.new }
 {
     made!(found.push(read!(var(alloc, cursor, depth))));
     match read!(cursor.take(TokenKind::Comma, depth)) {
@@ -119,7 +119,7 @@ fn vars(
 /// A name, or `_`.
 #[tactic(auto, using(campl_grammar::proofs::ByRule::reads_var))]
 pub fn var(alloc: Global, cursor: &mut Cursor<'_>, depth: u32) -> Result<Binder, ParseError>
-    ensures { Reads (read var_name depth cursor.old) result cursor.new }
+    ensures { Reads (read name.var depth cursor.old) result cursor.new }
 {
     if let Some(word) = read!(cursor.take(TokenKind::Lower, depth)) {
         return Ok(Binder::Variable(word.place(), made!(word.name(alloc))));
