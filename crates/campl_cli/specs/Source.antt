@@ -1,4 +1,4 @@
--- What a source is: its tokens, their layout, the tree of its words, and names that are well declared; or its first fault.
+-- What a source is: its tokens, their layout, the tree of its terminals, and names that are well declared; or its first fault.
 use Rattle.std.specs.Prelude.{◌≡◌, ◌⊎◌, Option, Some, None, ℕ, List, ◌∷◌, Ok, Err, chars, ⊤}
 use Rattle.campl_tree.specs.declared.place.Place.{Place}
 use Rattle.campl_tree.specs.declared.decl.Program.{Program}
@@ -37,11 +37,11 @@ end_of text = place_past first_place (chars text)
 abbrev pub HasLayout : List ℕ → List Token → Type 0
 HasLayout text laid = (tokens : List Token) × HasTokens text tokens × (laid_out text (end_of text) tokens ≡ Ok laid)
 
--- the text has a layout whose words, nested no deeper than the limit, are a program with this tree
+-- the text has a layout whose terminals, nested no deeper than the limit, are a program with this tree
 abbrev pub HasTree : List ℕ → Program → Type 0
 HasTree text program = (laid : List Token) × HasLayout text laid × parsing.HasTree (terminals_of text laid) program
 
--- the text has a layout, and a fault stands at a word of it
+-- the text has a layout, and a fault stands at a terminal of it
 abbrev pub HasNoTree : List ℕ → (List Terminal → List Terminal → Type 0) → Place → Type 0
 HasNoTree text is at = (laid : List Token) × HasLayout text laid × parsing.StandsAt is (terminals_of text laid) at
 
