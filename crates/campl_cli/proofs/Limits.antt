@@ -1,10 +1,16 @@
 -- Limits on the texts.
-use Rattle.std.proofs.Common.{◌≡◌, ℕ, Bool, true, List, length, map, arith, zero, suc, [], ◌∷◌, leb}
+use Rattle.std.proofs.Common.{◌≡◌, ◌≤◌, ℕ, Bool, true, List, length, map, arith, ap, zero, suc, [], ◌∷◌, leb}
 use Rattle.std.specs.Prelude.{◌↔◌, IsTrue, All, chars, String, string_bytes}
+use Rattle.std.specs.Str.{IsUtf8}
 use Rattle.std.proofs.lemmas.Bool.{leb-true}
+use Rattle.std.proofs.lemmas.Str.{length-le-encodes, encodes-chars}
 use Rattle.std.proofs.lemmas.List.{length-map}
 use Rattle.campl_cli.specs.Form.{IsPlainName, IsShort, IsFine}
 use Rattle.campl_cli.proofs.TopCall.{All-from_map}
+
+-- a text has no more characters than bytes
+pub few_characters : (bs : List ℕ) → IsUtf8 bs → length (chars bs) ≤ length bs
+few_characters bs h = omega (arith, length-le-encodes (chars bs), ap length (encodes-chars bs h))
 
 -- what holds of each f x holds of each of map f
 All-to_map : {A B : Type 0} (P : B → Type 0) (f : A → B) (xs : List A) → All (λ x. P (f x)) xs → All P (map f xs)
