@@ -2,7 +2,8 @@
 ghost use Rattle.std.specs.Prelude.{◌≡◌, ◌<◌, [], ◌∷◌, ◌++◌, IfOk, OnOk, chars, codes, false, if◌then◌else◌, ◌==◌};
 ghost use Rattle.std.specs.Fmt.{digits, signed_decimal};
 ghost use Rattle.campl_types.specs.Forms as f;
-ghost use Rattle.campl_shown.specs.Characters.{character_text, escaped};
+ghost use Rattle.campl_shown.specs.Characters.{character_text};
+ghost use Rattle.campl_value.specs.Shown.{shown_character};
 ghost use Rattle.campl_missing.specs.Texts as texts;
 ghost use Rattle.campl_missing.specs.View.{view_form, view_forms};
 
@@ -151,7 +152,7 @@ fn push_character(alloc: Global, text: &mut Vec<char>, c: char) -> Result<(), Al
 /// What stands between the quotes.
 #[tactic(auto, using(crate::proofs::Written::escapes))]
 fn push_inside(alloc: Global, text: &mut Vec<char>, c: char) -> Result<(), AllocError>
-    ensures { OnOk result (text.new.items ≡ text.old.items ++ (if c == 39 then codes "\\'" else escaped c)) }
+    ensures { OnOk result (text.new.items ≡ text.old.items ++ (if c == 39 then codes "\\'" else shown_character c)) }
 {
     if c == '\'' {
         push_str(alloc, text, "\\'")
@@ -163,7 +164,7 @@ fn push_inside(alloc: Global, text: &mut Vec<char>, c: char) -> Result<(), Alloc
 /// A character, or its escape where it is a backslash or has no picture.
 #[tactic(auto, using(crate::proofs::Written::escapes))]
 fn push_escaped(alloc: Global, text: &mut Vec<char>, c: char) -> Result<(), AllocError>
-    ensures { OnOk result (text.new.items ≡ text.old.items ++ escaped c) }
+    ensures { OnOk result (text.new.items ≡ text.old.items ++ shown_character c) }
 {
     match c {
         '\\' => push_str(alloc, text, "\\\\"),
