@@ -6,3 +6,4 @@ pub mod TopCall
 pub mod Phases
 pub mod Shapes
 pub mod Limits
+pub mod OneAnswer

@@ -1,10 +1,11 @@
 -- The journal of a printing source is a run from its start, which finishes with the texts written down.
-use Rattle.std.proofs.Common.{◌≡◌, ℕ, suc, Bool, true, false, List, [], ◌∷◌, ◌++◌, inr, refl, sym, ap, subst, Option, Some, None, if◌then◌else◌, append_assoc, nat_le, arith}
+use Rattle.std.proofs.Common.{◌≡◌, ◌∙◌, ℕ, suc, ◌+◌, ◌*◌, Bool, true, false, List, [], ◌∷◌, ◌++◌, length, inr, refl, sym, ap, subst, Option, Some, None, if◌then◌else◌, append_assoc, nat_le, arith}
 use Rattle.std.proofs.Math.Path.{fun_ext}
 use Rattle.std.specs.Prelude.{map, codes, eqb}
 use Rattle.std.specs.List.{AllByRecursion}
 use Rattle.std.proofs.lemmas.List.Elements.{recursion_from_All}
-use Rattle.campl_value.specs.Tree.{depth_of}
+use Rattle.std.proofs.lemmas.List.{length-map}
+use Rattle.campl_value.specs.Tree.{Tree, depth_of}
 use Rattle.campl_value.specs.Text.{text_of, chars_of_text}
 use Rattle.campl_machine.specs.Names.{End, Who, Process, Service, same_end, same_who}
 use Rattle.campl_machine.specs.Machine.{update, both_ways, sent, taken, rest_of, moved, looked}
@@ -15,10 +16,10 @@ use Rattle.campl_meaning.specs.Reductions.{Configuration, Event, Reduces, reduce
 use Rattle.campl_meaning.specs.Start.{near, far, start}
 use Rattle.campl_meaning.specs.Ends.{IsEnd, Finished, IsEnabled, HasNoProcess, transcript_of}
 use Rattle.campl_meaning.specs.Kinds as k
-use Rattle.campl_meaning.specs.Journals.{Entry, Naming, naming_at_start, IsRunOf, IsRunFromStart, Says, Times}
+use Rattle.campl_meaning.specs.Journals.{Entry, Naming, naming_at_start, IsRunOf, IsRunFromStart, Says, Times, steps_of}
 use Rattle.campl_cli.specs.Form.{Prints, IsShort, IsFine}
 use Rattle.campl_cli.proofs.Depths.{text_fits}
-use Rattle.campl_cli.specs.Printing.{printing, source_of, sends, serves, journal_of, sent_pick, sent_word, took_pick, took_word, halted}
+use Rattle.campl_cli.specs.Printing.{printing, source_of, sends, takes, serves, journal_of, sent_pick, sent_word, took_pick, took_word, halted}
 
 -- a number, and a name, is the same as itself
 eqb-refl : (n : ℕ) → eqb n n ≡ true
@@ -286,12 +287,27 @@ fits : (name : Name) (body : Body) (texts : List (List ℕ)) → AllByRecursion 
 fits name body [] fine = tt
 fits name body (text ∷ texts) (fine, more) = (text_fits text fine, fits name body texts more)
 
+-- a text that is sent is two steps, and so is one that is taken
+steps_of_sends : (words : List Tree) (more : List Entry) → steps_of (sends words ++ more) ≡ 2 * length words + steps_of more
+steps_of_sends [] more = omega arith
+steps_of_sends (word ∷ words) more = omega (arith, steps_of_sends words more)
+
+steps_of_takes : (words : List Tree) (more : List Entry) → steps_of (takes words ++ more) ≡ 2 * length words + steps_of more
+steps_of_takes [] more = omega arith
+steps_of_takes (word ∷ words) more = omega (arith, steps_of_takes words more)
+
+steps_of_journal : (texts : List (List ℕ)) → steps_of (journal_of texts) ≡ 4 * length texts + 3
+steps_of_journal texts =
+    let words : List Tree = map text_of texts in
+    omega (arith, steps_of_sends words (sent_pick 2 ∷ (halted ∷ serves words)), steps_of_takes words (took_pick 2 ∷ []), length-map texts text_of)
+
 -- what the run of the source of these prints comes to: it is finished, and the service has written the texts down
 pub record Comes (p : Prints) (entries : List Entry) : Type 0 where
   pub last : Configuration
   pub run : IsRunFromStart (source_of p) [] entries last
   pub end : (steps budget : ℕ) → IsEnd last steps budget Finished
   pub transcript : transcript_of last 0 ≡ map Took p.texts ++ (WasClosed ∷ [])
+  pub steps : steps_of entries ≡ 4 * length p.texts + 3
 
 -- the journal of a source of the form is a run from its start
 pub printing-runs : (p : Prints) (entries : List Entry) → IsFine p → entries ≡ journal_of p.texts → Comes p entries
@@ -307,4 +323,5 @@ printing-runs p entries fine same =
       run = (naming name body, subst (λ es. IsRunOf (naming name body) (start (source_of p) []) es (naming name body) (at_last name body texts)) (sym same) run);
       end = λ steps budget. (no_process name body texts, none_enabled name body texts);
       transcript = refl;
+      steps = ap steps_of same ∙ steps_of_journal texts;
     }

@@ -1,18 +1,21 @@
 -- The four ways in which the command ends.
-use Rattle.std.proofs.Common.{◌≡◌, ◌<◌, ℕ, List, [], ◌∷◌, inl, inr, ap, ap₂, sym, subst, ◌∙◌, map}
+use Rattle.std.proofs.Common.{◌≡◌, ◌<◌, ℕ, ◌+◌, List, [], ◌∷◌, arith, inl, inr, ap, ap₂, sym, subst, ◌∙◌, map}
 use Rattle.std.specs.Prelude.{All, string_bytes}
+use Rattle.std.specs.List.{fold}
 use Rattle.std.proofs.lemmas.List.{length-map}
 use Rattle.std.proofs.Math.ListN.{get_or-map}
 use Rattle.campl_meaning.specs.States.{Transcript}
 use Rattle.campl_meaning.specs.Ends as e
+use Rattle.campl_meaning.specs.Journals.{steps_of}
 use Rattle.campl_meaning.specs.Output.{output_of}
+use Rattle.campl_config.specs.declared.entry.Entry.{Entry}
 use Rattle.campl_config.specs.Journal.{plain_entries, weight_of}
 use Rattle.campl_cli.specs.declared.performance.Performance.{Performance}
 use Rattle.campl_cli.specs.declared.refusal.Refusal.{Refusal}
-use Rattle.campl_cli.specs.declared.refusal.Refusal.TheVariants.{OutOfMemory}
+use Rattle.campl_cli.specs.declared.refusal.Refusal.TheVariants.{BadCommandLine, ReadFault, TooLong, NotUtf8, Source, NotBuilt, OutOfMemory}
 use Rattle.campl_cli.specs.declared.report.Report.{Report}
 use Rattle.campl_cli.specs.Form.{Prints}
-use Rattle.campl_cli.specs.Refusals.{Files, IsAccepted, IsDue}
+use Rattle.campl_cli.specs.Refusals.{Files, IsAccepted, IsDue, TakesMemory}
 use Rattle.campl_cli.specs.Performance.{IsPerformance, IsPrinted}
 use Rattle.campl_cli.specs.Answer.{Stream, Had, HadNothing, HasRun, IsAnswer, IsTold, IsRefused, FailedIn, printed, step_budget}
 use Rattle.campl_cli.proofs.Printing.{Comes, printing-runs}
@@ -20,6 +23,14 @@ use Rattle.campl_cli.proofs.Printing.{Comes, printing-runs}
 -- what holds of each f x holds of each x behind f
 pub All-from_map : {A B : Type 0} (P : B → Type 0) (f : A → B) (xs : List A) → All P (map f xs) → All (λ x. P (f x)) xs
 All-from_map P f xs all k d h = subst P (get_or-map f xs k d) (all k (f d) (subst (λ n. k < n) (sym (length-map xs f)) h))
+
+-- the weights of entries are their steps
+weights_from : (n : ℕ) (entries : List Entry) → fold (λ a entry. a + entry.weight) n entries ≡ n + steps_of (plain_entries entries)
+weights_from n [] = omega arith
+weights_from n (entry ∷ entries) = omega (arith, weights_from (n + entry.weight) entries)
+
+weight_is : (entries : List Entry) → weight_of entries ≡ steps_of (plain_entries entries)
+weight_is entries = omega (arith, weights_from 0 entries)
 
 module _ (words : List (List ℕ)) (files : Files) (out err : Stream) (report : Report) where
   -- what ran and is printed or couldn't be
@@ -32,6 +43,7 @@ module _ (words : List (List ℕ)) (files : Files) (out err : Stream) (report : 
       run = comes.run;
       end = comes.end report.steps step_budget;
       steps = told.steps ∙ ap weight_of (sym told.entries);
+      within = omega (arith, told.steps, ap weight_of told.entries, weight_is report.journal.entries, comes.steps, done.fine.few);
       ended = told.ended;
     }
 
@@ -68,8 +80,18 @@ module _ (words : List (List ℕ)) (files : Files) (out err : Stream) (report : 
     | inr answer ↦ inr (inr (inr (record { status = answer.0; refusal = refusal; due = due; other = answer.1; no_run = told.no_run; no_output = nothing; told = answer.2 })))
   ]
 
+  -- where a line takes memory, the words are a command
+  starved : (refusal : Refusal) → IsDue words files refusal → TakesMemory refusal → IsDue words files OutOfMemory
+  starved (NotUtf8 at) (file, is, refused) takes = (file, is, tt)
+  starved (Source fault) (file, is, refused) takes = (file, is, tt)
+  starved BadCommandLine due takes = absurd takes
+  starved TooLong due takes = absurd takes
+  starved NotBuilt due takes = absurd takes
+  starved ReadFault due takes = absurd takes
+  starved OutOfMemory due takes = absurd takes
+
   pub answers_refusal : (refusal : Refusal) → IsDue words files refusal → HadNothing out → IsRefused refusal err report → IsAnswer words files out err report
   answers_refusal refusal due nothing refused = elim refused [
     | inl told ↦ told_answer refusal due nothing told
-    | inr told ↦ told_answer OutOfMemory tt nothing told
+    | inr told ↦ told_answer OutOfMemory (starved refusal due told.0) nothing told.1
   ]

@@ -1,5 +1,5 @@
 -- What the command answers, and what it has written by then.
-use Rattle.std.specs.Prelude.{◌≡◌, ◌≢◌, ℕ, ◌⊎◌, List, [], ◌∷◌, ◌++◌, Option, Some, None}
+use Rattle.std.specs.Prelude.{◌≡◌, ◌≢◌, ◌≤◌, ℕ, ◌⊎◌, List, [], ◌∷◌, ◌++◌, Option, Some, None}
 use Rattle.std.specs.Io.KnownBytes.{Appends}
 use Rattle.campl_text.specs.Counts.{Rose}
 use Rattle.campl_meaning.specs.Reductions.{Configuration}
@@ -14,7 +14,7 @@ use Rattle.campl_cli.specs.declared.report.Report.{Report}
 use Rattle.campl_cli.specs.declared.report.Ended.TheVariants.{Finished}
 use Rattle.campl_cli.specs.Form.{Prints}
 use Rattle.campl_cli.specs.Printing.{source_of}
-use Rattle.campl_cli.specs.Refusals.{Files, IsAccepted, IsDue, status_of, line_of, write_fault_line}
+use Rattle.campl_cli.specs.Refusals.{Files, IsAccepted, IsDue, TakesMemory, status_of, line_of, write_fault_line}
 
 -- what a stream has had before and after the call, where it tells it, and its counts of faults
 pub record Stream : Type 0 where
@@ -47,11 +47,12 @@ HadOrFailed s bytes = Had s bytes ⊎ FailedIn s bytes
 abbrev pub step_budget : ℕ
 step_budget = 100000
 
--- the journal is a run of the source's reductions from its start to this configuration, which is finished
+-- the journal is a run of the source's reductions from its start to this configuration, which is finished, within the budget
 pub record HasRun (p : Prints) (report : Report) (last : Configuration) : Type 0 where
   pub run : IsRunFromStart (source_of p) [] (plain_entries report.journal.entries) last
   pub end : IsEnd last report.steps step_budget e.Finished
   pub steps : report.steps ≡ weight_of report.journal.entries
+  pub within : report.steps ≤ step_budget
   pub ended : report.ended ≡ Some Finished
 
 -- nothing ran
@@ -114,6 +115,6 @@ pub record IsTold (refusal : Refusal) (err : Stream) (report : Report) : Type 0 
   pub answer : ((report.status ≡ status_of refusal) × (Had err (line_of refusal) ⊎ ((refusal ≡ OutOfMemory) × FailedIn err (line_of refusal))))
       ⊎ ((report.status ≡ 6) × (refusal ≢ OutOfMemory) × FailedIn err (line_of refusal))
 
--- the same, but for want of memory, which may come in the place of the refusal
+-- the same, but for want of memory, which may come in the place of a refusal whose line takes memory
 abbrev pub IsRefused : Refusal → Stream → Report → Type 0
-IsRefused refusal err report = IsTold refusal err report ⊎ IsTold OutOfMemory err report
+IsRefused refusal err report = IsTold refusal err report ⊎ (TakesMemory refusal × IsTold OutOfMemory err report)

@@ -27,11 +27,11 @@ code_of RunNotService = codes "E24 RunNotService"
 code_of TypeArguments = codes "E25 TypeArguments"
 
 -- what is told beside the place
-abbrev pub words_of_detail : Detail → List ℕ
-words_of_detail Nothing = []
-words_of_detail (Named x) = codes ": name " ++ encode_utf8_all x
-words_of_detail (Counted found wanted) = codes ": found " ++ (decimal found ++ (codes ", wanted " ++ decimal wanted))
+abbrev pub message_of_detail : Detail → List ℕ
+message_of_detail Nothing = []
+message_of_detail (Named x) = codes ": name " ++ encode_utf8_all x
+message_of_detail (Counted found wanted) = codes ": found " ++ (decimal found ++ (codes ", wanted " ++ decimal wanted))
 
 -- a fault as its line tells it: `E02 OpenString at 4:13`, `E21 Unknown at 2:9: name x`
-abbrev pub words_of_fault : SourceFault → List ℕ
-words_of_fault f = code_of f.kind ++ (codes " at " ++ (decimal f.place.line ++ (codes ":" ++ (decimal f.place.column ++ words_of_detail f.detail))))
+abbrev pub message_of_fault : SourceFault → List ℕ
+message_of_fault f = code_of f.kind ++ (codes " at " ++ (decimal f.place.line ++ (codes ":" ++ (decimal f.place.column ++ message_of_detail f.detail))))

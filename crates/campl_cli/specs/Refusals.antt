@@ -2,12 +2,12 @@
 use Rattle.std.specs.Prelude.{ℕ, ◌<◌, List, [], ◌∷◌, ◌++◌, Option, IfSome, codes, length, Err, Ok, ⊤}
 use Rattle.std.specs.Fmt.{decimal}
 use Rattle.campl_text.specs.Counts.{Rose}
-use Rattle.campl_text.specs.Reading.{IsReading}
+use Rattle.campl_text.specs.Reading.{IsReading, IsTextWithin}
 use Rattle.campl_text.specs.declared.reading.TextFault.TheVariants as t
 use Rattle.campl_tree.specs.declared.decl.Program.{Program}
 use Rattle.campl_cli.specs.declared.refusal.Refusal.{Refusal}
 use Rattle.campl_cli.specs.declared.refusal.Refusal.TheVariants.{BadCommandLine, ReadFault, TooLong, NotUtf8, Source, NotBuilt, OutOfMemory}
-use Rattle.campl_cli.specs.Faults.{words_of_fault}
+use Rattle.campl_cli.specs.Faults.{message_of_fault}
 use Rattle.campl_cli.specs.Form.{Prints, IsFormOf}
 use Rattle.campl_cli.specs.Source.{HasNames, IsSourceFault}
 use Rattle.campl_cli.specs.Words.{IsCommand}
@@ -25,18 +25,28 @@ status_of NotBuilt = 3
 status_of ReadFault = 5
 status_of OutOfMemory = 7
 
--- a line feed ends each line
-abbrev pub words_of : Refusal → List ℕ
-words_of BadCommandLine = codes "bad command line"
-words_of TooLong = codes "source is longer than 1048576 bytes"
-words_of (NotUtf8 at) = codes "source isn't UTF-8 at byte " ++ decimal at
-words_of (Source fault) = words_of_fault fault
-words_of NotBuilt = codes "E60 NotBuilt at 1:1"
-words_of ReadFault = codes "read fault"
-words_of OutOfMemory = codes "out of memory"
+abbrev pub message_of : Refusal → List ℕ
+message_of BadCommandLine = codes "bad command line"
+message_of TooLong = codes "source is longer than 1048576 bytes"
+message_of (NotUtf8 at) = codes "source isn't UTF-8 at byte " ++ decimal at
+message_of (Source fault) = message_of_fault fault
+message_of NotBuilt = codes "E60 NotBuilt at 1:1"
+message_of ReadFault = codes "read fault"
+message_of OutOfMemory = codes "out of memory"
 
+-- the refusal's line, which a line feed ends
 abbrev pub line_of : Refusal → List ℕ
-line_of refusal = codes "campl: " ++ (words_of refusal ++ (10 ∷ []))
+line_of refusal = codes "campl: " ++ (message_of refusal ++ (10 ∷ []))
+
+-- a line with numbers or names takes memory; any other one stands in the program
+abbrev pub TakesMemory : Refusal → Type 0
+TakesMemory (NotUtf8 at) = ⊤
+TakesMemory (Source fault) = ⊤
+TakesMemory BadCommandLine = ⊥
+TakesMemory TooLong = ⊥
+TakesMemory NotBuilt = ⊥
+TakesMemory ReadFault = ⊥
+TakesMemory OutOfMemory = ⊥
 
 -- the line of status 6
 abbrev pub write_fault_line : List ℕ
@@ -56,6 +66,10 @@ files holds faults old new = record { held = holds old; before = faults old; aft
 abbrev pub IsText : List ℕ → List ℕ → Type 0
 IsText contents text = IsReading contents source_limit (Ok text)
 
+-- the file has this text: that of contents within the limit, and of those that the outside tells, where it does
+abbrev pub HasText : Files → (file text : List ℕ) → Type 0
+HasText files file text = IsTextWithin source_limit text × IfSome (files.held file) (λ contents. IsText contents text)
+
 -- the text has a tree of the form, which is well declared, and prints this
 abbrev pub PrintsText : List ℕ → Prints → Type 0
 PrintsText text p = (program : Program) × HasNames text program × IsFormOf p program
@@ -72,7 +86,7 @@ IsRefusedText text ReadFault = ⊥
 
 -- the file's source prints this
 abbrev pub IsSource : Files → (file : List ℕ) → Prints → Type 0
-IsSource files file p = (text : List ℕ) × PrintsText text p × IfSome (files.held file) (λ contents. IsText contents text)
+IsSource files file p = (text : List ℕ) × HasText files file text × PrintsText text p
 
 -- the words name a file whose source is of the form, and prints this
 abbrev pub IsAccepted : List (List ℕ) → Files → Prints → Type 0
@@ -84,16 +98,11 @@ IsRefusedSource files file BadCommandLine = ⊥
 IsRefusedSource files file ReadFault = Rose (files.before file) (files.after file)
 IsRefusedSource files file TooLong = IfSome (files.held file) (λ contents. source_limit < length contents)
 IsRefusedSource files file (NotUtf8 at) = IfSome (files.held file) (λ contents. IsReading contents source_limit (Err (t.NotUtf8 at)))
-IsRefusedSource files file (Source fault) = (text : List ℕ) × IsRefusedText text (Source fault) × IfSome (files.held file) (λ contents. IsText contents text)
-IsRefusedSource files file NotBuilt = (text : List ℕ) × IsRefusedText text NotBuilt × IfSome (files.held file) (λ contents. IsText contents text)
+IsRefusedSource files file (Source fault) = (text : List ℕ) × HasText files file text × IsRefusedText text (Source fault)
+IsRefusedSource files file NotBuilt = (text : List ℕ) × HasText files file text × IsRefusedText text NotBuilt
 IsRefusedSource files file OutOfMemory = ⊤
 
 -- when a command is refused so: its words are no command, or the source of its file is refused
 abbrev pub IsDue : List (List ℕ) → Files → Refusal → Type 0
 IsDue words files BadCommandLine = (file : List ℕ) → IsCommand words file → ⊥
-IsDue words files ReadFault = (file : List ℕ) × IsCommand words file × IsRefusedSource files file ReadFault
-IsDue words files TooLong = (file : List ℕ) × IsCommand words file × IsRefusedSource files file TooLong
-IsDue words files (NotUtf8 at) = (file : List ℕ) × IsCommand words file × IsRefusedSource files file (NotUtf8 at)
-IsDue words files (Source fault) = (file : List ℕ) × IsCommand words file × IsRefusedSource files file (Source fault)
-IsDue words files NotBuilt = (file : List ℕ) × IsCommand words file × IsRefusedSource files file NotBuilt
-IsDue words files OutOfMemory = ⊤
+IsDue words files refusal = (file : List ℕ) × IsCommand words file × IsRefusedSource files file refusal

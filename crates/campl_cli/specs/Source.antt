@@ -1,5 +1,5 @@
 -- What a source is: its tokens, their layout, the tree of its words, and names that are well declared; or its first fault.
-use Rattle.std.specs.Prelude.{◌≡◌, ◌⊎◌, Option, Some, None, ℕ, List, [], ◌∷◌, ◌++◌, Ok, Err, chars, ⊤}
+use Rattle.std.specs.Prelude.{◌≡◌, ◌⊎◌, Option, Some, None, ℕ, List, ◌∷◌, Ok, Err, chars, ⊤}
 use Rattle.campl_tree.specs.declared.place.Place.{Place}
 use Rattle.campl_tree.specs.declared.decl.Program.{Program}
 use Rattle.campl_lex.specs.declared.token.Token.{Token}
@@ -82,9 +82,13 @@ told_of_names (naming.NoRun at) = Some (record { kind = NoRun; place = at; detai
 told_of_names (naming.RunNotService at) = Some (record { kind = RunNotService; place = at; detail = Nothing })
 told_of_names naming.OutOfMemory = None
 
--- the text's first fault: one of its tokens, its layout or its words, which has no detail, or one of its names
+-- the text's first fault of tokens, of layout or of the grammar, as it is told: with no detail
+abbrev pub IsToldOfText : List ℕ → SourceFault → Type 0
+IsToldOfText text f = (f.detail ≡ Nothing) × IsTextFault text f.kind f.place
+
+-- the text's first fault: that, or where it has a tree, the first of its names
 abbrev pub IsSourceFault : List ℕ → SourceFault → Type 0
-IsSourceFault text f = ((f.detail ≡ Nothing) × IsTextFault text f.kind f.place) ⊎ ((fault : NameFault) × HasNameFault text fault × (told_of_names fault ≡ Some f))
+IsSourceFault text f = IsToldOfText text f ⊎ ((fault : NameFault) × HasNameFault text fault × (told_of_names fault ≡ Some f))
 
 -- the refusal for a fault of tokens or of layout
 abbrev pub refusal_of_lexing : LexFault → Refusal
@@ -98,15 +102,15 @@ refusal_of_lexing (lexing.BadColumn at) = Source (record { kind = BadColumn; pla
 refusal_of_lexing (lexing.TextTooLong at) = Source (record { kind = TextTooLong; place = at; detail = Nothing })
 refusal_of_lexing lexing.OutOfMemory = OutOfMemory
 
--- a text without a tree is refused for its first fault; want of memory alone comes freely
-abbrev pub IsSourceRefusal : List ℕ → Refusal → Type 0
-IsSourceRefusal text (Source fault) = IsSourceFault text fault
-IsSourceRefusal text OutOfMemory = ⊤
-IsSourceRefusal text BadCommandLine = ⊥
-IsSourceRefusal text TooLong = ⊥
-IsSourceRefusal text (NotUtf8 at) = ⊥
-IsSourceRefusal text NotBuilt = ⊥
-IsSourceRefusal text ReadFault = ⊥
+-- a text without a tree is refused for its first fault of tokens, layout or grammar; want of memory alone comes freely
+abbrev pub IsTreeRefusal : List ℕ → Refusal → Type 0
+IsTreeRefusal text (Source fault) = IsToldOfText text fault
+IsTreeRefusal text OutOfMemory = ⊤
+IsTreeRefusal text BadCommandLine = ⊥
+IsTreeRefusal text TooLong = ⊥
+IsTreeRefusal text (NotUtf8 at) = ⊥
+IsTreeRefusal text NotBuilt = ⊥
+IsTreeRefusal text ReadFault = ⊥
 
 -- a fault is told, or else memory ran out
 abbrev pub refused_for : Option SourceFault → Refusal

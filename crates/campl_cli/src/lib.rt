@@ -24,6 +24,6 @@ pub use names::judge_names;
 pub use printer::{Printer, printer_of};
 pub use refusal::{Refusal, SOURCE_LIMIT};
 pub use report::{Ended, Report};
-pub use source::tree_of;
+pub use source::{one_answer, tree_of};
 pub use telling::refuse;
 pub use words::file_of;

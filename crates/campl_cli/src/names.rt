@@ -6,8 +6,9 @@ ghost use Rattle.campl_cli.specs.Source.{refusal_of_naming, IsRefusedForNames};
 
 use crate::fault::{Detail, FaultKind, SourceFault};
 use crate::refusal::Refusal;
+use campl_names::declare;
 use campl_tree::{Name, Place, Program};
-use campl_types::{NameFault, declare};
+use campl_types::NameFault;
 use std::alloc::Global;
 
 /// Judges the names of a program.

@@ -1,10 +1,13 @@
 //! From the text of a source to its tree: tokens, layout, words.
-ghost use Rattle.std.specs.Prelude.{◌≡◌, MatchResult, IfOk};
+ghost use Rattle.std.specs.Prelude.{◌≡◌, ℕ, List, MatchResult, IfOk};
 ghost use Rattle.std.specs.List.{All};
 ghost use Rattle.campl_lex.specs.Layout.{IsWritten, IsWhole};
 ghost use Rattle.campl_words.specs.Words.{IsCut};
-ghost use Rattle.campl_cli.specs.Source.{HasTokens, HasLayout, HasTree, IsSourceRefusal, refusal_of_lexing};
+ghost use Rattle.campl_tree.specs.declared.place.Place.{Place};
+ghost use Rattle.campl_tree.specs.declared.decl.Program.{Program};
+ghost use Rattle.campl_cli.specs.Source.{HasTokens, HasLayout, HasTree, IsTextFault, IsTreeRefusal, refusal_of_lexing};
 ghost use Rattle.campl_cli.specs.declared.fault.Detail.TheVariants.{Nothing};
+ghost use Rattle.campl_cli.specs.declared.fault.FaultKind.{FaultKind};
 
 use crate::fault::{Detail, FaultKind, SourceFault};
 use crate::refusal::Refusal;
@@ -44,7 +47,7 @@ fn refusal_of(fault: LexFault) -> Refusal
 
 // The tokens of a text.
 fn tokens_of(alloc: Global, text: &Text) -> Result<Vec<Token>, Refusal>
-    ensures tokens { MatchResult result (λ tokens. HasTokens text.now tokens.items) (IsSourceRefusal text.now) }
+    ensures tokens { MatchResult result (λ tokens. HasTokens text.now tokens.items) (IsTreeRefusal text.now) }
     ensures written { IfOk result (λ tokens. All (IsWritten text.now) tokens.items) }
 {
     match lex(alloc, text) {
@@ -55,7 +58,7 @@ fn tokens_of(alloc: Global, text: &Text) -> Result<Vec<Token>, Refusal>
 
 // The layout of a text.
 fn layout_of(alloc: Global, text: &Text) -> Result<Vec<Token>, Refusal>
-    ensures laid { MatchResult result (λ laid. HasLayout text.now laid.items) (IsSourceRefusal text.now) }
+    ensures laid { MatchResult result (λ laid. HasLayout text.now laid.items) (IsTreeRefusal text.now) }
     ensures whole { IfOk result (λ laid. IsWhole laid.items) }
     ensures cut { IfOk result (λ laid. All (IsCut text.now) laid.items) }
 {
@@ -70,7 +73,7 @@ fn layout_of(alloc: Global, text: &Text) -> Result<Vec<Token>, Refusal>
 
 /// The tree of a text, or its first fault: that of its tokens, then that of its layout, and then that of its words.
 pub fn tree_of(alloc: Global, text: &Text) -> Result<Program, Refusal>
-    ensures { MatchResult result (HasTree text.now) (IsSourceRefusal text.now) }
+    ensures { MatchResult result (HasTree text.now) (IsTreeRefusal text.now) }
 {
     let laid = layout_of(alloc, text)?;
     match parse(alloc, text, &laid) {
@@ -80,3 +83,9 @@ pub fn tree_of(alloc: Global, text: &Text) -> Result<Program, Refusal>
         Err(ParseFault::OutOfMemory) => Err(Refusal::OutOfMemory),
     }
 }
+
+/// A text has one tree or a fault of tokens, layout or grammar, and never both.
+pub fn one_answer()
+    ensures tree { (text : List ℕ) (this that : Program) → HasTree text this → HasTree text that → this ≡ that }
+    ensures no_fault { (text : List ℕ) (program : Program) (kind : FaultKind) (at : Place) → HasTree text program → ¬ (IsTextFault text kind at) }
+{}

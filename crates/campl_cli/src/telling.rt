@@ -1,7 +1,7 @@
 //! Tells a refusal on the stream of errors.
 ghost use Rattle.std.specs.Prelude.{◌≡◌, ◌≢◌, ◌⊎◌, ◌++◌, ◌∷◌, [], codes, IfOk, string_bytes};
 ghost use Rattle.std.specs.Fmt.{decimal};
-ghost use Rattle.campl_cli.specs.Faults.{words_of_detail};
+ghost use Rattle.campl_cli.specs.Faults.{message_of_detail};
 ghost use Rattle.campl_cli.specs.Refusals.{line_of, status_of};
 ghost use Rattle.campl_cli.specs.Answer.{stream, IsTold, IsRefused, HasNoRun};
 
@@ -15,8 +15,8 @@ use std::alloc::{AllocError, Global};
 /// The status where writing failed.
 pub const WRITE_FAULT: u8 = 6;
 
-/// Writes the refusal's line, and answers its status, or 6 where the line couldn't be written. Where there is no memory for the
-/// line, want of memory is told instead.
+/// Writes the refusal's line, and answers its status, or 6 where the line couldn't be written. A line with numbers or names
+/// takes memory; where there is none for it, want of memory is told instead.
 pub fn refuse<E: Sink>(alloc: Global, refusal: Refusal, err: &mut E) -> Report
     ensures { IsRefused refusal (stream E.written E.faults err.old err.new) result }
 {
@@ -63,7 +63,7 @@ fn refuse_source<E: Sink>(alloc: Global, fault: SourceFault, err: &mut E) -> Rep
 fn line_of_fault(alloc: Global, fault: &SourceFault) -> Result<String, AllocError>
     ensures { IfOk result (λ line. string_bytes line ≡ line_of (Refusal.Source fault.now)) }
 {
-    let detail = words_of(alloc, &fault.detail)?;
+    let detail = message_of(alloc, &fault.detail)?;
     spelled(
         alloc,
         fault.kind.code(),
@@ -74,8 +74,8 @@ fn line_of_fault(alloc: Global, fault: &SourceFault) -> Result<String, AllocErro
 }
 
 // What is told beside the place.
-fn words_of(alloc: Global, detail: &Detail) -> Result<String, AllocError>
-    ensures { IfOk result (λ words. string_bytes words ≡ words_of_detail detail.now) }
+fn message_of(alloc: Global, detail: &Detail) -> Result<String, AllocError>
+    ensures { IfOk result (λ message. string_bytes message ≡ message_of_detail detail.now) }
 {
     match detail {
         Detail::Nothing => Ok(String::new(alloc)),

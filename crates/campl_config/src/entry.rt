@@ -31,7 +31,8 @@ pub enum Kind {
 /// An entry of a journal: who did what, and at which ends.
 ///
 /// Process 0 is `run`, and the services are 1, 2, .. in the order of its heading. Channel `c` has the ends `2 * c` and
-/// `2 * c + 1`, of which `run` or the first of two bodies has the first.
+/// `2 * c + 1`. Of a channel of the heading `run` has the first and the service the second; of a fork's two channels the
+/// bodies have the first ends, and the message the second; of a plug's channel the first is on the output side.
 #[derive(Drop)]
 pub struct Entry {
     pub process: u32,

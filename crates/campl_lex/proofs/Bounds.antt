@@ -5,7 +5,7 @@ use Rattle.std.specs.Char.{is_ascii_digit}
 use Rattle.std.proofs.lemmas.Bool.Decides.{nat_tests}
 use Rattle.std.proofs.lemmas.List.Sums.{prefix_len-le-length}
 use Rattle.campl_tree.specs.declared.place.Place.{Place}
-use Rattle.campl_lex.specs.declared.limits.TheConstants.{NAME_MAX, TEXT_MAX, NUMBER_MAX}
+use Rattle.campl_lex.specs.Limits.{longest_name, longest_text, greatest_number}
 use Rattle.campl_lex.specs.declared.token.TokenKind.TheVariants.{Number, Text, Character, Symbol}
 use Rattle.campl_lex.specs.declared.literal.Stop.{Stop}
 use Rattle.campl_lex.specs.declared.literal.Stop.TheVariants as stop
@@ -27,21 +27,21 @@ blank_bounded : (n m : ℕ) → 0 < m → m ≤ n → Bounded n (Ok (blank m))
 blank_bounded n m h k = (h, k)
 
 name_bounded : (p : Place) (c : ℕ) (w : List ℕ) (n : ℕ) → length (c ∷ w) ≤ n → Bounded n (name_piece p (c ∷ w))
-name_bounded p c w n h = by (nat_lt NAME_MAX (length (c ∷ w)))
+name_bounded p c w n h = by (nat_lt longest_name (length (c ∷ w)))
   where
     by : (b : Bool) → Bounded n (cond b (Err (NameTooLong p)) (Ok (record { kind = Some (name_kind (c ∷ w)); length = length (c ∷ w) })))
     by true = tt
     by false = (omega arith, h)
 
 number_bounded : (p : Place) (c : ℕ) (w : List ℕ) (n : ℕ) → length (c ∷ w) ≤ n → Bounded n (number_piece p (c ∷ w))
-number_bounded p c w n h = by (nat_le (number_of (c ∷ w)) NUMBER_MAX)
+number_bounded p c w n h = by (nat_le (number_of (c ∷ w)) greatest_number)
   where
     by : (b : Bool) → Bounded n (cond b (Ok (record { kind = Some Number; length = length (c ∷ w) })) (Err (NumberTooLarge p)))
     by true = (omega arith, h)
     by false = tt
 
 closed_bounded : (p : Place) (q n : ℕ) (body : Body) → body.length + 2 ≤ n → Bounded n (closed_literal p q body)
-closed_bounded p q n body h = by (eqb q 39) (eqb body.count 1) (nat_lt TEXT_MAX body.count)
+closed_bounded p q n body h = by (eqb q 39) (eqb body.count 1) (nat_lt longest_text body.count)
   where
     by : (a b d : Bool)
         → Bounded n (cond a (cond b (Ok (record { kind = Some Character; length = body.length + 2 })) (Err (OpenString p))) (cond d (Err (TextTooLong p)) (Ok (record { kind = Some Text; length = body.length + 2 }))))

@@ -1,13 +1,15 @@
 -- Worked values of the definitions.
-use Rattle.std.proofs.Common.{◌≡◌, true, false, [], ◌∷◌, Ok, Err, refl, codes}
+use Rattle.std.proofs.Common.{◌≡◌, ℕ, ◌+◌, true, false, [], ◌∷◌, replicate, Some, Ok, Err, refl, codes}
 use Rattle.campl_lex.specs.declared.token.TokenKind.TheVariants as kind
-use Rattle.campl_lex.specs.declared.fault.LexFault.TheVariants.{BadColumn}
+use Rattle.campl_lex.specs.declared.token.Token.{Token}
+use Rattle.campl_lex.specs.declared.fault.LexFault.TheVariants.{BadColumn, NumberTooLarge, NameTooLong, TextTooLong}
+use Rattle.campl_lex.specs.declared.literal.Body.{Body}
 use Rattle.campl_lex.specs.declared.literal.Stop.TheVariants as stop
 use Rattle.campl_lex.specs.Spot.{place_past, first_place, bytes}
 use Rattle.campl_lex.specs.Spelling.{number_of, is_reserved, kind_of}
 use Rattle.campl_lex.specs.Literal.{hex_value}
 use Rattle.campl_lex.specs.Tokens.{begins_comment, is_white}
-use Rattle.campl_lex.specs.Reading.{symbol_len, escape_len, scan}
+use Rattle.campl_lex.specs.Reading.{symbol_len, escape_len, scan, name_piece, number_piece, closed_literal}
 use Rattle.campl_lex.specs.Layout.{laid, laid_out, inserted, is_enclosed}
 
 number : number_of (codes "0042") ≡ 42
@@ -44,6 +46,29 @@ escapes = (refl, refl, refl, refl, refl)
 literal : scan 34 0 (97 ∷ 92 ∷ 34 ∷ 98 ∷ 34 ∷ []) ≡ record { stop = stop.Quote; length = 4; count = 3 }
 literal = refl
 
+-- a name of 64 characters, and one of 65
+names :
+    (name_piece first_place (replicate 64 97) ≡ Ok (record { kind = Some kind.Lower; length = 64 }))
+    × (name_piece first_place (replicate 65 97) ≡ Err (NameTooLong first_place))
+unfolding is_reserved
+names = (refl, refl)
+
+-- the greatest number, and one more
+numbers :
+    (number_piece first_place (codes "9223372036854775807") ≡ Ok (record { kind = Some kind.Number; length = 19 }))
+    × (number_piece first_place (codes "9223372036854775808") ≡ Err (NumberTooLarge first_place))
+numbers = (refl, refl)
+
+-- a literal that stands for so many characters, and takes as many
+abbrev of_length : ℕ → Body
+of_length n = record { stop = stop.Quote; length = n; count = n }
+
+-- a text of 1,024 characters, and one of 1,025
+texts :
+    (closed_literal first_place 34 (of_length 1024) ≡ Ok (record { kind = Some kind.Text; length = 1026 }))
+    × (closed_literal first_place 34 (of_length 1025) ≡ Err (TextTooLong first_place))
+texts = (refl, refl)
+
 -- the empty source, whose end is at 1:1
 empty : laid_out [] (record { line = 1; column = 1 }) [] ≡ Ok (inserted kind.Open 0 (record { line = 1; column = 1 }) ∷ inserted kind.Close 0 (record { line = 1; column = 1 }) ∷ [])
 unfolding laid
@@ -55,6 +80,23 @@ open_at_end :
     ≡ Err (BadColumn (record { line = 1; column = 3 }))
 unfolding laid
 open_at_end = refl
+
+-- a name of one letter at a byte, a line and a column
+abbrev letter : ℕ → ℕ → ℕ → Token
+letter at line column = record { kind = kind.Lower; start = at; stop = at + 1; place = record { line = line; column = column } }
+
+-- a, and b below it: a line of its own
+two_lines :
+    laid_out (codes "a\nb") (record { line = 2; column = 2 }) (letter 0 1 1 ∷ letter 2 2 1 ∷ [])
+    ≡ Ok
+    (inserted kind.Open 0 first_place
+    ∷ letter 0 1 1
+    ∷ inserted kind.Separator 2 (record { line = 2; column = 1 })
+    ∷ letter 2 2 1
+    ∷ inserted kind.Close 3 (record { line = 2; column = 2 })
+    ∷ [])
+unfolding laid
+two_lines = refl
 
 braces : is_enclosed 1 (inserted kind.Open 0 first_place ∷ inserted kind.Close 0 first_place ∷ inserted kind.Close 0 first_place ∷ []) ≡ true
 braces = refl

@@ -6,7 +6,7 @@ use Rattle.std.proofs.lemmas.Bool.Decides.{nat_tests}
 use Rattle.std.proofs.lemmas.List.{take-append-drop, take_at, length-take-le}
 use Rattle.std.proofs.lemmas.List.Sums.{prefix_len-le-length}
 use Rattle.campl_tree.specs.declared.place.Place.{Place}
-use Rattle.campl_lex.specs.declared.limits.TheConstants.{NAME_MAX, TEXT_MAX, NUMBER_MAX}
+use Rattle.campl_lex.specs.Limits.{longest_name, longest_text, greatest_number}
 use Rattle.campl_lex.specs.declared.token.TokenKind.TheVariants as kind
 use Rattle.campl_lex.specs.declared.literal.Stop.TheVariants as stop
 use Rattle.campl_lex.specs.declared.fault.LexFault.{LexFault}
@@ -123,10 +123,10 @@ token_only p (c ∷ w) rest t = by (begins_name c) refl (is_ascii_digit c) refl 
 
         cases : (c ≡ 34) ⊎ (c ≡ 39) → piece p (c ∷ (w ++ rest)) ≡ Ok (record { kind = Some (kind_of (c ∷ w)); length = length (c ∷ w) })
         cases (inl g) =
-            let within : length cs ≤ TEXT_MAX = t.within.text b cs (ap (λ x. c ∷ x) e ∙ ap (λ x. x ∷ (b ++ x ∷ [])) g) (subst (λ x. Spells x b cs) g s) in
+            let within : length cs ≤ longest_text = t.within.text b cs (ap (λ x. c ∷ x) e ∙ ap (λ x. x ∷ (b ++ x ∷ [])) g) (subst (λ x. Spells x b cs) g s) in
             front
             ∙ ap (λ x. closed_literal p x (record { stop = stop.Quote; length = length b; count = length cs })) g
-            ∙ ap (λ x. cond x (Err (TextTooLong p)) (Ok (record { kind = Some kind.Text; length = length b + 2 }))) (not_more (length cs) TEXT_MAX within)
+            ∙ ap (λ x. cond x (Err (TextTooLong p)) (Ok (record { kind = Some kind.Text; length = length b + 2 }))) (not_more (length cs) longest_text within)
             ∙ ap (λ n. Ok (record { kind = Some kind.Text; length = n })) (sym size)
             ∙ ap (λ x. Ok (record { kind = Some (kind_of (x ∷ w)); length = length (c ∷ w) })) (sym g)
         cases (inr g) =
@@ -141,12 +141,12 @@ token_only p (c ∷ w) rest t = by (begins_name c) refl (is_ascii_digit c) refl 
     by true n d e q f =
         named_piece p c w rest t.longest t.no_comment n
         ∙ ap (λ x. cond x (Err (NameTooLong p)) (Ok (record { kind = Some (name_kind (c ∷ w)); length = length (c ∷ w) })))
-        (not_more (length (c ∷ w)) NAME_MAX (t.within.name (spelled_name c w n t.longest.spelled)))
+        (not_more (length (c ∷ w)) longest_name (t.within.name (spelled_name c w n t.longest.spelled)))
         ∙ ap (λ k. Ok (record { kind = Some k; length = length (c ∷ w) })) (sym (kind_name c w n))
     by false n true e q f =
         numbered_piece p c w rest t.longest t.no_comment n e
         ∙ ap (λ x. cond x (Ok (record { kind = Some kind.Number; length = length (c ∷ w) })) (Err (NumberTooLarge p)))
-        (is_within (number_of (c ∷ w)) NUMBER_MAX (t.within.number (spelled_number c w e t.longest.spelled)))
+        (is_within (number_of (c ∷ w)) greatest_number (t.within.number (spelled_number c w e t.longest.spelled)))
         ∙ ap (λ k. Ok (record { kind = Some k; length = length (c ∷ w) })) (sym (kind_number c w e))
     by false n false e true f = let h = spelled_literal c w f t.longest.spelled in literally f h.0 h.1 h.2 h.3 h.4
     by false n false e false f =
@@ -192,14 +192,14 @@ offends_only p text fault (says.not_one_character w cs rest s h) =
     ∙ ap (λ x. cond x (Ok (record { kind = Some kind.Character; length = length w + 2 })) (Err (OpenString p))) (let z : eqb (length cs) 1 ≡ false = grind (arith, nat_tests) in z)
 offends_only p text fault (says.long_text w cs rest s h) =
     closed_piece p 34 rest refl s
-    ∙ ap (λ x. cond x (Err (TextTooLong p)) (Ok (record { kind = Some kind.Text; length = length w + 2 }))) (let z : nat_lt TEXT_MAX (length cs) ≡ true = grind (arith, nat_tests) in z)
+    ∙ ap (λ x. cond x (Err (TextTooLong p)) (Ok (record { kind = Some kind.Text; length = length w + 2 }))) (let z : nat_lt longest_text (length cs) ≡ true = grind (arith, nat_tests) in z)
 offends_only p text fault (says.large_number [] rest a long h) = cc
 offends_only p text fault (says.large_number (c ∷ w) rest a long h) =
     let d : is_ascii_digit c ≡ true = number_first c w a in
     numbered_piece p c w rest long (no_comment_at is_ascii_digit c (w ++ rest) d refl) (digit_no_name c d) d
-    ∙ ap (λ x. cond x (Ok (record { kind = Some kind.Number; length = length (c ∷ w) })) (Err (NumberTooLarge p))) (let z : nat_le (number_of (c ∷ w)) NUMBER_MAX ≡ false = grind (arith, nat_tests) in z)
+    ∙ ap (λ x. cond x (Ok (record { kind = Some kind.Number; length = length (c ∷ w) })) (Err (NumberTooLarge p))) (let z : nat_le (number_of (c ∷ w)) greatest_number ≡ false = grind (arith, nat_tests) in z)
 offends_only p text fault (says.long_name [] rest a long h) = cc
 offends_only p text fault (says.long_name (c ∷ w) rest a long h) =
     let b : begins_name c ≡ true = name_first c w a in
     named_piece p c w rest long (no_comment_at begins_name c (w ++ rest) b (no_name 45 (lit< tt) refl)) b
-    ∙ ap (λ x. cond x (Err (NameTooLong p)) (Ok (record { kind = Some (name_kind (c ∷ w)); length = length (c ∷ w) }))) (let z : nat_lt NAME_MAX (length (c ∷ w)) ≡ true = grind (arith, nat_tests) in z)
+    ∙ ap (λ x. cond x (Err (NameTooLong p)) (Ok (record { kind = Some (name_kind (c ∷ w)); length = length (c ∷ w) }))) (let z : nat_lt longest_name (length (c ∷ w)) ≡ true = grind (arith, nat_tests) in z)

@@ -4,7 +4,7 @@ use Rattle.std.specs.List.{list_all}
 use Rattle.std.specs.Char.{is_ascii_digit}
 use Rattle.std.proofs.lemmas.Bool.Decides.{nat_tests}
 use Rattle.campl_tree.specs.declared.place.Place.{Place}
-use Rattle.campl_lex.specs.declared.limits.TheConstants.{TEXT_MAX}
+use Rattle.campl_lex.specs.Limits.{longest_text}
 use Rattle.campl_lex.specs.declared.token.TokenKind.TheVariants as kind
 use Rattle.campl_lex.specs.declared.literal.Stop.{Stop}
 use Rattle.campl_lex.specs.declared.literal.Stop.TheVariants as stop
@@ -58,7 +58,7 @@ one_body w ds b cs s t e =
     ap (λ (o : Body). o.count)
     (sym (scan_is 34 {w = b} {cs = cs} (34 ∷ []) stop.Quote refl t refl) ∙ ap (scan 34 0) (sym tail) ∙ scan_is 34 {w = w} {cs = ds} (34 ∷ []) stop.Quote refl s refl)
 
-text_within : (w ds : List ℕ) → Spells 34 w ds → length ds ≤ TEXT_MAX → IsWithinLimits (34 ∷ (w ++ 34 ∷ []))
+text_within : (w ds : List ℕ) → Spells 34 w ds → length ds ≤ longest_text → IsWithinLimits (34 ∷ (w ++ 34 ∷ []))
 text_within w ds s l =
     record {
       name = λ h. apart (begins_name 34) (name_first 34 (w ++ 34 ∷ []) h) (quote_no_name 34 refl);
@@ -99,12 +99,12 @@ sound_character p w ds r s = by (eqb (length ds) 1) refl
 
 sound_text : (p : Place) (w ds r : List ℕ) → Spells 34 w ds
     → Stands p (34 ∷ (w ++ 34 ∷ r)) (closed_literal p 34 (record { stop = stop.Quote; length = length w; count = length ds }))
-sound_text p w ds r s = by (nat_lt TEXT_MAX (length ds)) refl
+sound_text p w ds r s = by (nat_lt longest_text (length ds)) refl
   where
-    by : (b : Bool) → nat_lt TEXT_MAX (length ds) ≡ b → Stands p (34 ∷ (w ++ 34 ∷ r)) (cond b (Err (TextTooLong p)) (Ok (record { kind = Some kind.Text; length = length w + 2 })))
-    by true e = let more : TEXT_MAX < length ds = grind (arith, nat_tests) in says.long_text w ds r s more
+    by : (b : Bool) → nat_lt longest_text (length ds) ≡ b → Stands p (34 ∷ (w ++ 34 ∷ r)) (cond b (Err (TextTooLong p)) (Ok (record { kind = Some kind.Text; length = length w + 2 })))
+    by true e = let more : longest_text < length ds = grind (arith, nat_tests) in says.long_text w ds r s more
     by false e =
-        let less : length ds ≤ TEXT_MAX = grind (arith, nat_tests) in (
+        let less : length ds ≤ longest_text = grind (arith, nat_tests) in (
           34 ∷ (w ++ 34 ∷ []),
           r,
           ap (λ z. 34 ∷ z) (sym (append_assoc w (34 ∷ []) r)),

@@ -6,7 +6,7 @@ use Rattle.std.proofs.lemmas.Bool.Decides.{nat_tests}
 use Rattle.std.proofs.lemmas.List.{take-append-drop, length-take-le}
 use Rattle.std.proofs.lemmas.List.Sums.{prefix_len-le-length}
 use Rattle.campl_tree.specs.declared.place.Place.{Place}
-use Rattle.campl_lex.specs.declared.limits.TheConstants.{NAME_MAX, NUMBER_MAX}
+use Rattle.campl_lex.specs.Limits.{longest_name, greatest_number}
 use Rattle.campl_lex.specs.declared.token.TokenKind.{TokenKind}
 use Rattle.campl_lex.specs.declared.token.TokenKind.TheVariants as kind
 use Rattle.campl_lex.specs.declared.piece.Piece.{Piece}
@@ -95,7 +95,7 @@ kind_number c w b =
 not_34 : (c : ℕ) (b x : List ℕ) → (p : ℕ → Bool) → p c ≡ true → p 34 ≡ false → c ∷ x ≡ 34 ∷ b → ⊥
 not_34 c b x p h k e = apart (p 34) (ap p (sym (same_head c 34 x b e)) ∙ h) k
 
-name_within : (c : ℕ) (w : List ℕ) → begins_name c ≡ true → length (c ∷ w) ≤ NAME_MAX → IsWithinLimits (c ∷ w)
+name_within : (c : ℕ) (w : List ℕ) → begins_name c ≡ true → length (c ∷ w) ≤ longest_name → IsWithinLimits (c ∷ w)
 name_within c w b l =
     record {
       name = λ _. l;
@@ -103,7 +103,7 @@ name_within c w b l =
       text = λ x cs e s. absurd (not_34 c (x ++ 34 ∷ []) w begins_name b (quote_no_name 34 refl) e);
     }
 
-number_within : (c : ℕ) (w : List ℕ) → is_ascii_digit c ≡ true → number_of (c ∷ w) ≤ NUMBER_MAX → IsWithinLimits (c ∷ w)
+number_within : (c : ℕ) (w : List ℕ) → is_ascii_digit c ≡ true → number_of (c ∷ w) ≤ greatest_number → IsWithinLimits (c ∷ w)
 number_within c w b l =
     record {
       name = λ h. apart (begins_name c) (name_first c w h) (digit_no_name c b);
@@ -114,15 +114,15 @@ number_within c w b l =
 -- a name at the front
 pub sound_name : (p : Place) (c : ℕ) (cs w rest : List ℕ) → cs ≡ w ++ rest → list_all goes_on w ≡ true → prefix_len goes_on (w ++ rest) ≡ length w
     → begins_comment (c ∷ cs) ≡ false → begins_name c ≡ true → Stands p (c ∷ cs) (name_piece p (c ∷ w))
-sound_name p c cs w rest split a run m b = by (nat_lt NAME_MAX (length (c ∷ w))) refl
+sound_name p c cs w rest split a run m b = by (nat_lt longest_name (length (c ∷ w))) refl
   where
-    by : (t : Bool) → nat_lt NAME_MAX (length (c ∷ w)) ≡ t → Stands p (c ∷ cs) (cond t (Err (NameTooLong p)) (Ok (record { kind = Some (name_kind (c ∷ w)); length = length (c ∷ w) })))
+    by : (t : Bool) → nat_lt longest_name (length (c ∷ w)) ≡ t → Stands p (c ∷ cs) (cond t (Err (NameTooLong p)) (Ok (record { kind = Some (name_kind (c ∷ w)); length = length (c ∷ w) })))
     by true e =
-        let more : NAME_MAX < length (c ∷ w) = grind (arith, nat_tests) in
+        let more : longest_name < length (c ∷ w) = grind (arith, nat_tests) in
         subst (λ t. Offends p (c ∷ t) (NameTooLong p)) (sym split)
         (says.long_name (c ∷ w) rest (both (begins_name c) (list_all goes_on w) b a) (name_longest c w rest b a run) more)
     by false e =
-        let less : length (c ∷ w) ≤ NAME_MAX = grind (arith, nat_tests) in (
+        let less : length (c ∷ w) ≤ longest_name = grind (arith, nat_tests) in (
           c ∷ w,
           rest,
           ap (λ t. c ∷ t) split,
@@ -133,15 +133,15 @@ sound_name p c cs w rest split a run m b = by (nat_lt NAME_MAX (length (c ∷ w)
 
 pub sound_number : (p : Place) (c : ℕ) (cs w rest : List ℕ) → cs ≡ w ++ rest → list_all is_ascii_digit w ≡ true → prefix_len is_ascii_digit (w ++ rest) ≡ length w
     → begins_comment (c ∷ cs) ≡ false → is_ascii_digit c ≡ true → Stands p (c ∷ cs) (number_piece p (c ∷ w))
-sound_number p c cs w rest split a run m b = by (nat_le (number_of (c ∷ w)) NUMBER_MAX) refl
+sound_number p c cs w rest split a run m b = by (nat_le (number_of (c ∷ w)) greatest_number) refl
   where
-    by : (t : Bool) → nat_le (number_of (c ∷ w)) NUMBER_MAX ≡ t → Stands p (c ∷ cs) (cond t (Ok (record { kind = Some kind.Number; length = length (c ∷ w) })) (Err (NumberTooLarge p)))
+    by : (t : Bool) → nat_le (number_of (c ∷ w)) greatest_number ≡ t → Stands p (c ∷ cs) (cond t (Ok (record { kind = Some kind.Number; length = length (c ∷ w) })) (Err (NumberTooLarge p)))
     by false e =
-        let more : NUMBER_MAX < number_of (c ∷ w) = grind (arith, nat_tests) in
+        let more : greatest_number < number_of (c ∷ w) = grind (arith, nat_tests) in
         subst (λ t. Offends p (c ∷ t) (NumberTooLarge p)) (sym split)
         (says.large_number (c ∷ w) rest (both (is_ascii_digit c) (list_all is_ascii_digit w) b a) (number_longest c w rest b a run) more)
     by true e =
-        let less : number_of (c ∷ w) ≤ NUMBER_MAX = grind (arith, nat_tests) in (
+        let less : number_of (c ∷ w) ≤ greatest_number = grind (arith, nat_tests) in (
           c ∷ w,
           rest,
           ap (λ t. c ∷ t) split,

@@ -1,5 +1,6 @@
 pub mod Enclosure
 pub mod Layout
+pub mod Limits
 pub mod Literal
 pub mod Reading
 pub mod Spelling

@@ -4,7 +4,7 @@ use Rattle.std.specs.List.{prefix_len}
 use Rattle.std.specs.Char.{is_ascii_digit}
 use lib.Utf8.{scalar}
 use Rattle.campl_tree.specs.declared.place.Place.{Place}
-use Rattle.campl_lex.specs.declared.limits.TheConstants.{NAME_MAX, TEXT_MAX, NUMBER_MAX}
+use Rattle.campl_lex.specs.Limits.{longest_name, longest_text, greatest_number}
 use Rattle.campl_lex.specs.declared.token.Token.{Token}
 use Rattle.campl_lex.specs.declared.token.TokenKind.{TokenKind}
 use Rattle.campl_lex.specs.declared.token.TokenKind.TheVariants.{Number, Text, Character, Symbol}
@@ -76,7 +76,7 @@ abbrev pub closed_literal : Place → ℕ → Body → Result Piece LexFault
 closed_literal p quote body =
     if quote == 39
     then (if body.count == 1 then Ok (record { kind = Some Character; length = body.length + 2 }) else Err (OpenString p))
-    else (if nat_lt TEXT_MAX body.count then Err (TextTooLong p) else Ok (record { kind = Some Text; length = body.length + 2 }))
+    else (if nat_lt longest_text body.count then Err (TextTooLong p) else Ok (record { kind = Some Text; length = body.length + 2 }))
 
 abbrev pub literal_by : Stop → Place → ℕ → Body → Result Piece LexFault
 literal_by stop.Tab p quote body = Err (Tab (right p (body.length + 1)))
@@ -90,10 +90,10 @@ literal p quote cs = let body = scan quote 0 cs in literal_by body.stop p quote 
 
 -- a word that is a name, or digits
 abbrev pub name_piece : Place → List ℕ → Result Piece LexFault
-name_piece p w = if nat_lt NAME_MAX (length w) then Err (NameTooLong p) else Ok (record { kind = Some (name_kind w); length = length w })
+name_piece p w = if nat_lt longest_name (length w) then Err (NameTooLong p) else Ok (record { kind = Some (name_kind w); length = length w })
 
 abbrev pub number_piece : Place → List ℕ → Result Piece LexFault
-number_piece p w = if nat_le (number_of w) NUMBER_MAX then Ok (record { kind = Some Number; length = length w }) else Err (NumberTooLarge p)
+number_piece p w = if nat_le (number_of w) greatest_number then Ok (record { kind = Some Number; length = length w }) else Err (NumberTooLarge p)
 
 -- the length of the longest symbol; 0 where it is none
 abbrev pub symbol_len : ℕ → List ℕ → ℕ

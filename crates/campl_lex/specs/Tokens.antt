@@ -4,7 +4,7 @@ use Rattle.std.specs.Prelude.{◌≡◌, ◌≢◌, ℕ, ◌<◌, ◌≤◌, Boo
 use Rattle.std.specs.List.{list_all}
 use Rattle.std.specs.Str.{encode_utf8_all}
 use Rattle.campl_tree.specs.declared.place.Place.{Place}
-use Rattle.campl_lex.specs.declared.limits.TheConstants.{NAME_MAX, TEXT_MAX, NUMBER_MAX}
+use Rattle.campl_lex.specs.Limits.{longest_name, longest_text, greatest_number}
 use Rattle.campl_lex.specs.declared.token.Token.{Token}
 use Rattle.campl_lex.specs.declared.spot.Spot.{Spot}
 use Rattle.campl_lex.specs.declared.fault.LexFault.{LexFault}
@@ -53,9 +53,9 @@ pub record IsLongest (w rest : List ℕ) : Type 0 where
 
 -- no limit is passed
 pub record IsWithinLimits (w : List ℕ) : Type 0 where
-  pub name : is_name w ≡ true → length w ≤ NAME_MAX
-  pub number : is_number w ≡ true → number_of w ≤ NUMBER_MAX
-  pub text : (b cs : List ℕ) → w ≡ 34 ∷ (b ++ 34 ∷ []) → Spells 34 b cs → length cs ≤ TEXT_MAX
+  pub name : is_name w ≡ true → length w ≤ longest_name
+  pub number : is_number w ≡ true → number_of w ≤ greatest_number
+  pub text : (b cs : List ℕ) → w ≡ 34 ∷ (b ++ 34 ∷ []) → Spells 34 b cs → length cs ≤ longest_text
 
 -- w is a token, before `rest`
 pub record IsToken (w rest : List ℕ) : Type 0 where
@@ -81,9 +81,9 @@ pub data Offends (p : Place) : List ℕ → LexFault → Type 0 where
   open_literal : (q : ℕ) (w cs rest : List ℕ) → is_quote q ≡ true → Spells q w cs → ends_line rest ≡ true → Offends p (q ∷ (w ++ rest)) (OpenString p)
   -- a character literal without exactly one character
   not_one_character : (w cs rest : List ℕ) → Spells 39 w cs → length cs ≢ 1 → Offends p (39 ∷ (w ++ 39 ∷ rest)) (OpenString p)
-  long_text : (w cs rest : List ℕ) → Spells 34 w cs → TEXT_MAX < length cs → Offends p (34 ∷ (w ++ 34 ∷ rest)) (TextTooLong p)
-  large_number : (w rest : List ℕ) → is_number w ≡ true → IsLongest w rest → NUMBER_MAX < number_of w → Offends p (w ++ rest) (NumberTooLarge p)
-  long_name : (w rest : List ℕ) → is_name w ≡ true → IsLongest w rest → NAME_MAX < length w → Offends p (w ++ rest) (NameTooLong p)
+  long_text : (w cs rest : List ℕ) → Spells 34 w cs → longest_text < length cs → Offends p (34 ∷ (w ++ 34 ∷ rest)) (TextTooLong p)
+  large_number : (w rest : List ℕ) → is_number w ≡ true → IsLongest w rest → greatest_number < number_of w → Offends p (w ++ rest) (NumberTooLarge p)
+  long_name : (w rest : List ℕ) → is_name w ≡ true → IsLongest w rest → longest_name < length w → Offends p (w ++ rest) (NameTooLong p)
 
 -- the token that characters are at a spot
 abbrev pub token : Spot → List ℕ → Token

@@ -7,7 +7,7 @@ ghost use Rattle.campl_lex.specs.Spelling.{begins_name, goes_on, number_of};
 ghost use Rattle.campl_lex.specs.Literal.{is_hex_digit, hex_digit, hex_value};
 ghost use Rattle.std.specs.Prelude.{◌<◌};
 ghost use lib.Utf8.{scalar};
-ghost use Rattle.campl_lex.specs.declared.limits.TheConstants.{NUMBER_MAX};
+ghost use Rattle.campl_lex.specs.Limits.{greatest_number};
 
 use crate::limits::NUMBER_MAX;
 
@@ -111,7 +111,7 @@ pub fn line_len(text: &[char]) -> usize
 
 /// Whether digits are a number within the limit.
 pub fn number_fits(digits: &[char]) -> bool
-    ensures { result ≡ nat_le (number_of digits.now) NUMBER_MAX }
+    ensures { result ≡ nat_le (number_of digits.now) greatest_number }
 {
     let mut value: u128 = 0;
     for digit in digits {

@@ -18,8 +18,6 @@ mod literal;
 mod piece;
 mod spot;
 mod stack;
-#[cfg(test)]
-mod tests;
 mod token;
 mod words;
 

@@ -12,8 +12,8 @@ use Rattle.campl_types.specs.Substitution.{Filling}
 use Rattle.campl_tree.proofs.Views.{seq_views}
 use Rattle.campl_matching.specs.Matching.{bound_names, matched, all_matched, bind, then_match, Matches}
 use Rattle.campl_matching.specs.Parts.{item_of, parts_of, named_parts}
-use Rattle.campl_types.specs.Filling.{view_filling}
-use Rattle.campl_types.proofs.Fillings.{found-view, view-behind}
+use Rattle.campl_names.specs.Filling.{view_filling}
+use Rattle.campl_names.proofs.Fillings.{found-view, view-behind}
 
 -- What is known
 

@@ -8,7 +8,7 @@ use Rattle.campl_types.specs.SameTest.{same_seq}
 use Rattle.campl_types.specs.Substitution.{Filling, variables_of}
 use Rattle.std.specs.Prelude.{map, Bool as Truth}
 use Rattle.std.specs.declared.alloc.AllocError.{AllocError}
-use Rattle.campl_types.specs.Filling.{Bound}
+use Rattle.campl_names.specs.Filling.{Bound}
 
 -- the parameters that stand for something already
 abbrev pub bound_names : Filling → List Name

@@ -5,11 +5,11 @@ ghost use Rattle.campl_tree.specs.View.{view_seq, seq_types};
 ghost use Rattle.campl_types.specs.Names.{found, is_among, all_among};
 ghost use Rattle.campl_types.specs.Substitution.{variables_of_all};
 ghost use Rattle.campl_matching.specs.Matching.{bound_names, is_known, bind, matched, all_matched, Matches, Stays};
-ghost use Rattle.campl_types.specs.Filling.{view_filling};
+ghost use Rattle.campl_names.specs.Filling.{view_filling};
 
 use crate::parts::{item_of, named_parts, parts_of};
+use campl_names::{Filling, same_seq};
 use campl_tree::{Name, SeqType};
-use campl_types::{Filling, same_seq};
 use std::alloc::{AllocError, Global};
 
 /// Whether each parameter of a type stands for something.

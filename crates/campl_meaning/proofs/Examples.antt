@@ -1,12 +1,13 @@
--- A process that prints "Hello" on its Console, computed from its start.
+-- A process that prints "Hello" on its Console, computed from its start, and what no run does.
 use Rattle.std.proofs.Common.{◌≡◌, ℕ, List, [], ◌∷◌, ◌++◌, refl, Option, Some, None}
 use Rattle.std.specs.Prelude.{codes}
-use Rattle.campl_machine.specs.Names.{Who, Process, Service}
+use Rattle.campl_machine.specs.Names.{End, Who, Process, Service}
 use Rattle.campl_meaning.specs.Commands.{Source, Body, Then, Ends, Put, HPut, Halt, Text, Console, Name}
 use Rattle.campl_meaning.specs.States.{Took, WasClosed, Transcript}
 use Rattle.campl_meaning.specs.Reductions.{Configuration, Event, reduce}
-use Rattle.campl_meaning.specs.Start.{start}
-use Rattle.campl_meaning.specs.Ends.{transcript_of, Finished}
+use Rattle.campl_meaning.specs.Start.{near, far, start}
+use Rattle.campl_meaning.specs.Ends.{transcript_of, Finished, HasProcess, IsBrokenAt}
+use Rattle.campl_meaning.specs.Journals.{Naming, NamesBoth, with_channel, naming_at_start}
 use Rattle.std.specs.Fmt.{digits}
 use Rattle.campl_meaning.specs.Output.{output_of, shown_text, shown_character}
 
@@ -61,3 +62,33 @@ hello_printed = refl
 escapes_shown : shown_text (97 ∷ (92 ∷ (10 ∷ (7 ∷ (127 ∷ (233 ∷ [])))))) ≡ 97 ∷ (92 ∷ (92 ∷ (92 ∷ (110 ∷ (92 ∷ (117 ∷ (123 ∷ (55 ∷ (125 ∷ (92 ∷ (117 ∷ (123 ∷ (55 ∷ (102 ∷ (125 ∷ (195 ∷ (169 ∷ [])))))))))))))))))
 unfolding digits lib.Utf8.encode
 escapes_shown = refl
+
+-- at its start `run` is the process that is left
+run_is_left : HasProcess (start hello [])
+run_is_left = ([], _, refl)
+
+-- a process that names a channel that it doesn't hold is broken, whether it names it first or last
+abbrev names_no_channel : Body → Source
+names_no_channel body = record { services = record { name = console; kind = Console } ∷ []; body = body }
+
+sends_on_no_channel : IsBrokenAt (start (names_no_channel (Then (HPut (codes "ConsolePut") (codes "printer")) (Ends (Halt None)))) []) []
+sends_on_no_channel = (_, 0, refl, tt)
+
+halts_no_channel : IsBrokenAt (start (names_no_channel (Ends (Halt (Some (codes "printer"))))) []) []
+halts_no_channel = (_, 0, refl, tt)
+
+-- of two channels that are born the entry tells both numbers, of one the first, and they differ
+abbrev at_start : Naming
+at_start = naming_at_start hello
+
+abbrev channel : ℕ → End × End
+channel n = (near n, far n)
+
+two_channels : NamesBoth at_start (Some 1) (Some 2) (channel 1 ∷ (channel 2 ∷ [])) (with_channel 2 (channel 2) (with_channel 1 (channel 1) at_start))
+two_channels = (refl, (refl, refl))
+
+no_second_alone : (m : Naming) → NamesBoth at_start None (Some 1) (channel 1 ∷ []) m → ⊥
+no_second_alone m says = says
+
+no_number_twice : (m : Naming) → NamesBoth at_start (Some 1) (Some 1) (channel 1 ∷ (channel 2 ∷ [])) m → ⊥
+no_number_twice m says = cc says.1.0

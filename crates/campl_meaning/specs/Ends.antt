@@ -14,6 +14,10 @@ IsEnabled c = (w : Who) × (i : ℕ) × (next : Event × Configuration) × (redu
 abbrev pub HasNoProcess : Configuration → Type 0
 HasNoProcess c = (p : Path) → c.nodes (Process p) ≡ None
 
+-- some process is left
+abbrev pub HasProcess : Configuration → Type 0
+HasProcess c = (p : Path) × (state : State) × (c.nodes (Process p) ≡ Some state)
+
 -- an act that can never happen: also the identity of an end with itself or with its partner
 abbrev pub NeverActs : Configuration → Who → Act State Message → Type 0
 NeverActs c w Breaks = Unit {0}
@@ -22,9 +26,9 @@ NeverActs c w (Moves m) = ⊥
 NeverActs c w (Looks takes x f) = ⊥
 NeverActs c w Stands = ⊥
 
--- this process is broken
+-- this process is broken: its command can never happen, or a branch of its race can't
 abbrev pub IsBrokenAt : Configuration → Path → Type 0
-IsBrokenAt c p = (state : State) × (c.nodes (Process p) ≡ Some state) × NeverActs c (Process p) (wants state 0).act
+IsBrokenAt c p = (state : State) × (i : ℕ) × (c.nodes (Process p) ≡ Some state) × NeverActs c (Process p) (wants state i).act
 
 -- the service n was asked for a line with its script spent
 abbrev pub IsAsked : Configuration → ℕ → Type 0
@@ -41,7 +45,7 @@ abbrev pub IsEnd : Configuration → (steps budget : ℕ) → Ending → Type 0
 IsEnd c steps budget Finished = HasNoProcess c × (IsEnabled c → ⊥)
 IsEnd c steps budget Broken = (IsEnabled c → ⊥) × ((p : Path) × IsBrokenAt c p)
 IsEnd c steps budget Awaiting =
-    (IsEnabled c → ⊥) × ((p : Path) → IsBrokenAt c p → ⊥) × (HasNoProcess c → ⊥) × ((n : ℕ) × IsAsked c n)
+    (IsEnabled c → ⊥) × ((p : Path) → IsBrokenAt c p → ⊥) × HasProcess c × ((n : ℕ) × IsAsked c n)
 IsEnd c steps budget OutOfSteps = (steps ≡ budget) × IsEnabled c
 
 abbrev transcript_in : Option State → Transcript

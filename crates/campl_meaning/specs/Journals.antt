@@ -75,11 +75,12 @@ NamesChannels n [] [] m = m ≡ n
 NamesChannels n (k ∷ ks) (c ∷ cs) m = (n.channel k ≡ None) × NamesChannels (with_channel k c n) ks cs m
 NamesChannels n _ _ m = ⊥
 
-abbrev pub numbers_in : Option ℕ → Option ℕ → List ℕ
-numbers_in None None = []
-numbers_in (Some k) None = k ∷ []
-numbers_in None (Some k) = k ∷ []
-numbers_in (Some j) (Some k) = j ∷ (k ∷ [])
+-- the numbers of the entry's channels; a second without a first is none of any reduction
+abbrev pub NamesBoth : Naming → Option ℕ → Option ℕ → List (End × End) → Naming → Type 0
+NamesBoth n None None cs m = NamesChannels n [] cs m
+NamesBoth n (Some k) None cs m = NamesChannels n (k ∷ []) cs m
+NamesBoth n (Some j) (Some k) cs m = NamesChannels n (j ∷ (k ∷ [])) cs m
+NamesBoth n None (Some k) cs m = ⊥
 
 -- an entry says an event of w, and leads from one naming to the next
 pub record Says (n : Naming) (entry : Entry) (w : Who) (event : Event) (m : Naming) : Type 0 where
@@ -87,7 +88,7 @@ pub record Says (n : Naming) (entry : Entry) (w : Who) (event : Event) (m : Nami
   pub process : n.who entry.process ≡ Some w
   pub between : Naming
   pub child : NamesChildren n entry.child event.children between
-  pub channels : NamesChannels between (numbers_in entry.channel entry.channel2) event.channels m
+  pub channels : NamesBoth between entry.channel entry.channel2 event.channels m
   -- the message may name the ends that are born with it
   pub end : SaysEnd m entry.end event.end
   pub second : SaysEnd m entry.second event.second

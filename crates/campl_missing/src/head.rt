@@ -9,8 +9,8 @@ ghost use Rattle.campl_missing.specs.View.{view_form, view_forms, view_rows, vie
 ghost use Rattle.campl_missing.specs.Heads.{constructor_heads, data_heads};
 
 use crate::form::Form;
+use campl_names::{TypeRef, World, parts_at};
 use campl_tree::{DataConstructor, DataDecl, Name, SeqType};
-use campl_types::{TypeRef, World, parts_at};
 use sqlite_items::{Boxed, Items};
 use std::alloc::{AllocError, Global};
 

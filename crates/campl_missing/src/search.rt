@@ -9,8 +9,8 @@ ghost use Rattle.campl_missing.specs.declared.form.Form.TheVariants.{Anything};
 use crate::form::{Form, anythings, in_front};
 use crate::head::{Head, heads};
 use crate::opened::{all_open, opened_rows, put_back};
+use campl_names::World;
 use campl_tree::SeqType;
-use campl_types::World;
 use sqlite_items::Items;
 use std::alloc::{AllocError, Global};
 

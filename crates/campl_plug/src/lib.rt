@@ -19,8 +19,6 @@ mod labels;
 mod laws;
 mod plug;
 mod search;
-#[cfg(test)]
-mod tests;
 mod tree;
 
 pub use laws::{

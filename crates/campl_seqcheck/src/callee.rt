@@ -2,7 +2,7 @@
 ghost use Rattle.std.specs.Prelude.{◌≡◌, [], Some, None, IfOk, map, option_map};
 ghost use Rattle.std.specs.Option.{option_copied};
 ghost use Rattle.campl_tree.specs.View.{view_seq, view_decl, view_function};
-ghost use Rattle.campl_types.specs.Filling.{view_filling};
+ghost use Rattle.campl_names.specs.Filling.{view_filling};
 ghost use Rattle.campl_types.specs.Names.{all_among};
 ghost use Rattle.campl_types.specs.World.{function_named, variables_of_list};
 ghost use Rattle.campl_shown.specs.Types.{type_text, type_text_at};
@@ -15,9 +15,9 @@ ghost use Rattle.campl_seqcheck.specs.Steps.{parameters_of, types_of, result_of}
 
 use crate::fault::SeqFault;
 use campl_matching::{is_known, matched};
+use campl_names::{Filling, LowerRef, World};
 use campl_shown::{Shown, type_text, type_text_at};
 use campl_tree::{DataConstructor, FunctionDecl, Name, Place, SeqType};
-use campl_types::{Filling, LowerRef, World};
 use std::alloc::{AllocError, Global};
 
 /// What is called: a function, or a constructor of a data type that is the first of these types.

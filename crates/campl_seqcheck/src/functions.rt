@@ -12,8 +12,8 @@ ghost use Rattle.campl_seqcheck.specs.RowPatterns.{judge_row, judge_each_row};
 use crate::fault::SeqFault;
 use crate::judging::judge;
 use crate::rows::{fit_row, pattern_variables, rows_are_exhaustive};
+use campl_names::World;
 use campl_tree::{Decl, Expr, FunctionDecl, FunctionRow, Pattern, Program, SeqType};
-use campl_types::World;
 use campl_vars::Vars;
 use std::alloc::Global;
 

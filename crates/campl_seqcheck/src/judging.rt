@@ -1,7 +1,7 @@
 //! Expressions judged.
 ghost use Rattle.std.specs.Prelude.{◌≡◌, ◌++◌, Some, OnOk, map};
 ghost use Rattle.campl_tree.specs.View.{view_seq, view_expr, exprs, view_expr_row, expr_rows, view_data, view_data_constructor, view_decl};
-ghost use Rattle.campl_types.specs.Filling.{view_filling};
+ghost use Rattle.campl_names.specs.Filling.{view_filling};
 ghost use Rattle.campl_types.specs.Names.{found};
 ghost use Rattle.campl_vars.specs.Variables.{view_vars};
 ghost use Rattle.campl_seqcheck.specs.Answered.{IsVerdict, view_wanted};
@@ -20,8 +20,8 @@ use crate::meeting::{
 };
 use crate::rows::{check_case_rows, pattern_variables};
 use campl_matching::is_known;
+use campl_names::{ConstructorRef, Filling, World};
 use campl_tree::{DataConstructor, DataDecl, Expr, ExprRow, Name, Place, SeqType};
-use campl_types::{ConstructorRef, Filling, World};
 use campl_vars::Vars;
 use sqlite_items::Boxed;
 use std::alloc::Global;

@@ -1,6 +1,6 @@
 //! Sequential typing judged: the first fault of functions and of expressions.
 //!
-//! [`check_seq`] judges the functions of a program whose names are judged already (`campl_types::declare`), and
+//! [`check_seq`] judges the functions of a program whose names are judged already (`campl_names::declare`), and
 //! [`check_functions`] those among declarations, such as a world's. [`check_expr`] and [`find_expr`] judge an
 //! expression under variables, with and without a type that is wanted; [`check_match`] judges the patterns of rows, and
 //! [`fit_pattern`] tells what one binds. [`SeqFault`] is the first fault.

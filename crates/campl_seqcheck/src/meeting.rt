@@ -12,9 +12,9 @@ ghost use Rattle.campl_seqcheck.specs.Steps as steps;
 
 use crate::fault::SeqFault;
 use campl_matching::{item_of, parts_of};
+use campl_names::same_seq;
 use campl_shown::{Shown, type_text};
 use campl_tree::{Place, SeqType};
-use campl_types::same_seq;
 use sqlite_items::Boxed;
 use std::alloc::{AllocError, Global};
 

@@ -11,11 +11,20 @@ use std::alloc::{AllocError, Global};
 
 // A text that was taken, a line that was sent, or the end. A text stays the value that it is, so that noting it takes
 // no memory.
-#[derive(Drop)]
 pub enum Noted {
     Took(Value),
     Sent(Line),
     Closed,
+}
+
+impl Drop for Noted {
+    fn drop(self) {
+        match self {
+            Noted::Took(text) => drop(text),
+            Noted::Sent(line) => drop(line),
+            Noted::Closed => {}
+        }
+    }
 }
 
 impl Noted {

@@ -126,16 +126,27 @@ impl Service {
         ensures { action self.old.serving given ≡ Some (self.new.serving, result) }
     {
         match given {
-            Some(Message::Pick(number)) => {
-                self.pick(number);
+            Some(message) => {
+                self.take(message);
                 None
             }
-            Some(Message::Word(text)) => {
-                self.take_text(text);
-                None
-            }
-            Some(Message::Ends(..)) => unreachable!(),
             None => Some(Message::Word(self.send_line())),
+        }
+    }
+
+    // Takes a constructor or a text.
+    fn take(&mut self, message: Message)
+        requires suits { Suits (want self.old.serving) (Some message) }
+        requires room { 1 ≤ self.old.spare }
+        ensures { action self.old.serving (Some message) ≡ Some (self.new.serving, None) }
+    {
+        if let Message::Pick(number) = &message {
+            self.pick(*number);
+        } else {
+            match message.into_word() {
+                Some(text) => self.take_text(text),
+                None => unreachable!(),
+            }
         }
     }
 

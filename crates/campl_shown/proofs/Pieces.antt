@@ -5,7 +5,7 @@ use Rattle.std.specs.Str.{chars}
 use Rattle.std.proofs.lemmas.List.{append-nil, drop_more, drop_all}
 use Rattle.campl_shown.specs.Types.{Written}
 use Rattle.campl_tree.proofs.Views.{seq_views, chan_views}
-use Rattle.campl_types.proofs.Fillings.{found-view}
+use Rattle.campl_names.proofs.Fillings.{found-view}
 
 -- Words
 

@@ -1,13 +1,13 @@
 //! Sequential types as they are written.
 ghost use Rattle.std.specs.Prelude.{◌≡◌, ◌++◌, codes, IfOk, OnOk, map};
 ghost use Rattle.campl_tree.specs.View.{view_seq, seq_types};
-ghost use Rattle.campl_types.specs.Filling.{view_filling};
+ghost use Rattle.campl_names.specs.Filling.{view_filling};
 ghost use Rattle.campl_shown.specs.Types.{written, arguments, type_text, type_text_at};
 
 use crate::shown::Shown;
 use crate::variables::{Names, Types, Variables};
+use campl_names::Filling;
 use campl_tree::SeqType;
-use campl_types::Filling;
 use std::alloc::{AllocError, Global};
 
 /// A type as it is written, with one space behind a comma, and variables by their names.

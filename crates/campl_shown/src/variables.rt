@@ -1,13 +1,13 @@
 //! How the variables of types are written.
 ghost use Rattle.std.specs.Prelude.{◌≡◌, ◌++◌, List, ℕ, OnOk};
 ghost use Rattle.campl_shown.specs.Types.{or_unknown};
-ghost use Rattle.campl_types.specs.Filling.{view_filling};
+ghost use Rattle.campl_names.specs.Filling.{view_filling};
 ghost use Rattle.campl_types.specs.Names.{found};
 
 use crate::shown::Shown;
 use crate::types::push_type;
+use campl_names::Filling;
 use campl_tree::Name;
-use campl_types::Filling;
 use std::alloc::AllocError;
 
 /// A way to write variables.

@@ -14,6 +14,10 @@ IsReading contents limit (Err (NotUtf8 at)) = (length contents ≤ limit) × ¬ 
 IsReading contents limit (Err ReadFault) = ⊤
 IsReading contents limit (Err OutOfMemory) = ⊤
 
+-- the text of some contents of which at most `limit` bytes are allowed
+abbrev pub IsTextWithin : ℕ → List ℕ → Type 0
+IsTextWithin limit text = (contents : List ℕ) × IsReading contents limit (Ok text)
+
 -- the answer on contents that are within the limit
 abbrev pub IsTextOf : List ℕ → Result (List ℕ) TextFault → Type 0
 IsTextOf contents (Ok text) = IsUtf8 contents × (text ≡ without_mark contents)

@@ -4,7 +4,7 @@
 //! `read_text` reads a whole text within a limit, and `write_all_of` writes a whole list of bytes.
 //! Memory (`MemShelf`, `MemSink`) tells what it holds, and the system (`FileShelf`, `StdSink`) counts alone.
 //!
-//!     let mut shelf = FileShelf::new(&rt);
+//!     let mut shelf = FileShelf::new(&rt, rt.alloc());
 //!     let mut out = StdSink::new(io::writer(&rt));
 //!     match read_text(rt.alloc(), &mut shelf, "hello.campl", 1_048_576) {
 //!         Ok(text) => write_all_of(&mut out, text.as_str().as_bytes()),
@@ -27,6 +27,3 @@ pub use reading::{Failed, Shelf, TextFault, read_text};
 pub use std_sink::StdSink;
 pub use utf8::{TEXT_BYTES_MAX, Text};
 pub use writing::{Sink, SinkFault, write_all_of};
-
-#[cfg(test)]
-mod tests;

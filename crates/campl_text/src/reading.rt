@@ -2,7 +2,7 @@
 ghost use Rattle.std.specs.Prelude.{◌≡◌, ℕ, ◌<◌, ◌≤◌, List, Option, IfOk, OnErr, IsErrOf, MatchResult, IfSome, length, vec_len};
 ghost use Rattle.campl_text.specs.Counts.{Rose};
 ghost use Rattle.campl_text.specs.Given.{IsGiven};
-ghost use Rattle.campl_text.specs.Reading.{IsReading, IsTextOf, MayStop};
+ghost use Rattle.campl_text.specs.Reading.{IsReading, IsTextOf, IsTextWithin, MayStop};
 ghost use Rattle.campl_text.specs.declared.utf8.TheConstants.{TEXT_BYTES_MAX};
 ghost use Rattle.campl_text.specs.declared.reading.TheConstants.{PIECE_BYTES};
 
@@ -63,8 +63,8 @@ const PIECE_BYTES: usize = 65_536;
 const MARK: &str = "\u{FEFF}";
 
 /// The text of the file `name`, which may have `limit` bytes: the file's bytes as UTF-8, without one leading
-/// U+FEFF. The limit and the place `at` of `NotUtf8` count the bytes of that mark. Whatever the answer,
-/// the shelf holds what it held.
+/// U+FEFF. The limit and the place `at` of `NotUtf8` count the bytes of that mark, and the limit holds also where the shelf
+/// doesn't tell what the file has. Whatever the answer, the shelf holds what it held.
 pub fn read_text<F: Shelf>(
     alloc: Global,
     shelf: &mut F,
@@ -73,6 +73,7 @@ pub fn read_text<F: Shelf>(
 ) -> Result<Text, TextFault>
     requires { limit ≤ TEXT_BYTES_MAX }
     ensures answer { IfSome (F.holds shelf.old name.now) (λ contents. IsReading contents limit result) }
+    ensures within { IfOk result (IsTextWithin limit) }
 
     // A failed read is answered only where the name's count rose.
     ensures failed { IsErrOf result TextFault.ReadFault → Rose (F.faults shelf.old name.now) (F.faults shelf.new name.now) }
@@ -81,7 +82,7 @@ pub fn read_text<F: Shelf>(
 {
     let mut piece = zeroes(alloc, PIECE_BYTES)?;
     let contents = read_contents(alloc, shelf, name, limit, &mut piece)?;
-    text_of(alloc, &contents)
+    decoded(alloc, &contents)
 }
 
 // All bytes of the file `name`, if they are at most `limit`. Each turn reads into `piece` at least one byte, so it ends
@@ -120,7 +121,7 @@ fn zeroes(alloc: Global, count: usize) -> Result<Vec<u8>, AllocError>
 }
 
 // The text that the whole contents of a file are.
-fn text_of(alloc: Global, contents: &[u8]) -> Result<Text, TextFault>
+fn decoded(alloc: Global, contents: &[u8]) -> Result<Text, TextFault>
     requires { length contents.now ≤ TEXT_BYTES_MAX }
     ensures { IsTextOf contents.now result }
 {

@@ -1,7 +1,6 @@
 -- At a fork the free names of the first body tell which channels go to it: where some division makes both
 -- bodies well formed, it is this one.
 use Rattle.std.proofs.Common.{◌≡◌, ◌∙◌, refl, sym, ap, subst, Bool, true, false, not, ◌↔◌, if◌then◌else◌, Option, Some, None, is_some}
-use Rattle.std.specs.Prelude.{IsTrue}
 use Rattle.std.proofs.Math.Path.{fun_ext}
 use Rattle.std.proofs.lemmas.Option.{none-some}
 use Rattle.campl_tree.specs.declared.place.Place.{Place}
@@ -13,7 +12,7 @@ use Rattle.campl_types.specs.World.{World}
 use Rattle.campl_types.specs.Fits.{Vars}
 use Rattle.campl_types.specs.Held.{Channel, On, Held, with, without, only}
 use Rattle.campl_types.specs.Linear.{IsWellFormed}
-use Rattle.campl_types.specs.Free.{is_free, all_have_constructors, IsDividedBy, IsDividedByNames}
+use Rattle.campl_types.specs.Free.{is_free, IsDividedBy, IsDividedByNames}
 use Rattle.campl_types.proofs.Names.{same-is}
 use Rattle.campl_types.proofs.FreeCommands.{passed, none-kept}
 use Rattle.campl_types.proofs.FreeNames.{names-held}
@@ -34,12 +33,12 @@ kept-is-some keep held n c i = go (keep n)
     go false = refl
 
 -- each division keeps the channels that are free in the first body
-pub keeps-free : (w : World) → IsTrue (all_have_constructors w) → (vs : Vars) (held : Held) (x y : Ident) (left : Body) (z : Ident) (right : Body) (keep : Name → Bool)
+pub keeps-free : (w : World) (vs : Vars) (held : Held) (x y : Ident) (left : Body) (z : Ident) (right : Body) (keep : Name → Bool)
     → IsDividedBy keep w vs held x y left z right → (n : Name) (c : Channel) → without x.name held n ≡ Some c → keep n ≡ is_free n left
-keeps-free w some vs held x y left z right keep d n c i =
+keeps-free w vs held x y left z right keep d n c i =
     let others : Held = without x.name held in
     sym
-    (names-held w some vs (with y.name (Some (On d.0 d.2)) (only keep others)) left d.7 n
+    (names-held w vs (with y.name (Some (On d.0 d.2)) (only keep others)) left d.7 n
     ∙ ap is_some (passed (only keep others) n y.name (Some (On d.0 d.2)) (differ others n y.name c d.6.0 i))
     ∙ kept-is-some keep others n c i)
 
@@ -51,11 +50,11 @@ same-kept keep test held same = fun_ext (λ n. go n (held n) refl)
     go n None i = none-kept keep held n i ∙ sym (none-kept test held n i)
     go n (Some c) i = ap (λ p. if p then held n else None) (same n c i)
 
-pub divided-by-names : (w : World) → IsTrue (all_have_constructors w) → (vs : Vars) (held : Held) (x y : Ident) (left : Body) (z : Ident) (right : Body) (keep : Name → Bool)
+pub divided-by-names : (w : World) (vs : Vars) (held : Held) (x y : Ident) (left : Body) (z : Ident) (right : Body) (keep : Name → Bool)
     → IsDividedBy keep w vs held x y left z right → IsDividedByNames w vs held x y left z right
-divided-by-names w some vs held x y left z right keep d =
+divided-by-names w vs held x y left z right keep d =
     let others : Held = without x.name held in
-    let free : ((n : Name) (c : Channel) → others n ≡ Some c → keep n ≡ is_free n left) = keeps-free w some vs held x y left z right keep d in
+    let free : ((n : Name) (c : Channel) → others n ≡ Some c → keep n ≡ is_free n left) = keeps-free w vs held x y left z right keep d in
     let first = same-kept keep (λ n. is_free n left) others free in
     let second = same-kept (λ n. not (keep n)) (λ n. not (is_free n left)) others (λ n c i. ap not (free n c i)) in (
       d.0,
@@ -70,9 +69,9 @@ divided-by-names w some vs held x y left z right keep d =
     )
 
 -- a fork is well formed exactly by the division by free names
-pub forks-by-names : (w : World) → IsTrue (all_have_constructors w) → (vs : Vars) (held : Held) (at : Place) (x y : Ident) (left : Body) (z : Ident) (right : Body)
+pub forks-by-names : (w : World) (vs : Vars) (held : Held) (at : Place) (x y : Ident) (left : Body) (z : Ident) (right : Body)
     → IsWellFormed w vs held (b.Fork at x y left z right) ↔ IsDividedByNames w vs held x y left z right
-forks-by-names w some vs held at x y left z right = (
-  λ d. divided-by-names w some vs held x y left z right d.4 (d.0, d.1, d.2, d.3, d.5, d.6, d.7, d.8, d.9),
+forks-by-names w vs held at x y left z right = (
+  λ d. divided-by-names w vs held x y left z right d.4 (d.0, d.1, d.2, d.3, d.5, d.6, d.7, d.8, d.9),
   λ d. (d.0, d.1, d.2, d.3, λ n. is_free n left, d.4, d.5, d.6, d.7, d.8),
 )

@@ -12,8 +12,7 @@ use Rattle.campl_types.specs.World.{names_of}
 use Rattle.campl_types.specs.Held.{Channel, Held, with, without, only, HoldsOnly}
 use Rattle.campl_types.specs.Linear.{AreNew, AreHanded, receives_on}
 use Rattle.campl_types.specs.Free.{is_free}
-use Rattle.campl_types.proofs.Names.{same-is, same-turned}
-use Rattle.campl_types.proofs.Scopes.{or-assoc, among-append}
+use Rattle.campl_types.proofs.Names.{same-is, same-turned, or-assoc, among-append}
 
 -- Truth values
 

@@ -1,6 +1,6 @@
 -- A value of a type whose parameters are replaced is a value of the type, so what is said of the values of
 -- a function's types holds at each call.
-use Rattle.std.proofs.Common.{◌≡◌, refl, subst, Bool, true, false, List, [], ◌∷◌, Some, unwrap_or, if◌then◌else◌, map}
+use Rattle.std.proofs.Common.{◌≡◌, ◌∙◌, refl, sym, ap, subst, suc, length, Bool, true, false, List, [], ◌∷◌, Some, unwrap_or, if◌then◌else◌, map}
 use Rattle.campl_tree.specs.declared.place.Place.{Place}
 use Rattle.campl_tree.specs.Plain.SeqType.{SeqType, SeqTypes, no_types, type_then}
 use Rattle.campl_tree.specs.Plain.SeqType as s
@@ -67,6 +67,12 @@ mutual
   parts-refine xs ts us i no_types = tt
   parts-refine xs ts us i (type_then p ps) = (part-refines xs ts us i p, parts-refine xs ts us i ps)
 
+refined-length : (ts us : SeqTypes) → AllRefine ts us → length (list_of ts) ≡ length (list_of us)
+refined-length no_types no_types i = refl
+refined-length (type_then t ts) (type_then u us) (i, j) = ap suc (refined-length ts us j)
+refined-length no_types (type_then u us) i = absurd i
+refined-length (type_then t ts) no_types i = absurd i
+
 mutual
   refined-value : (w : World) (v : Tree) (t u : SeqType) → Refines t u → IsValue w v t → IsValue w v u
   refined-value w v t (s.Variable at x) i j = tt
@@ -76,8 +82,8 @@ mutual
   refined-value w Nil (s.List t) (s.List u) i j = tt
   refined-value w (Cell a b) (s.List t) (s.List u) i (j, k) = (refined-value w a t u i j, refined-value w b (s.List t) (s.List u) i k)
   refined-value w (Pair a b) (s.Pair t u) (s.Pair x y) (i, l) (j, k) = (refined-value w a t x i j, refined-value w b u y l k)
-  refined-value w (Built n vs) (s.Named at x ts) (s.Named there y us) (i, l) (d, k, a, b, c) =
-      (d, k, subst (λ z. data_named w z ≡ Some d) i a, b, refined-values w vs (names_of d.parameters) ts us l k.parts c)
+  refined-value w (Built n vs) (s.Named at x ts) (s.Named there y us) (i, l) (d, k, a, b, m, c) =
+      (d, k, subst (λ z. data_named w z ≡ Some d) i a, b, sym (refined-length ts us l) ∙ m, refined-values w vs (names_of d.parameters) ts us l k.parts c)
   refined-value w v s.Int s.Int i j = j
   refined-value w v s.Char s.Char i j = j
   refined-value w v s.Bool s.Bool i j = j

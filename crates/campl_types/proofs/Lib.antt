@@ -1,23 +1,5 @@
 pub mod Names
-mod Trees
-pub mod Judged
-pub mod Sets
-pub mod Entries
-pub mod Declared
-pub mod Scopes
-pub mod Judging
-pub mod Heads
-pub mod Preludes
-pub mod Runs
-pub mod Wholes
-pub mod Acts
-pub mod Letters
-pub mod Plugs
-mod Unlike
-mod UnlikeChan
 pub mod SameType
-mod TwoEnds
-pub mod Fillings
 pub mod DeclaredOnce
 pub mod Turned
 pub mod Instances
@@ -25,7 +7,5 @@ pub mod Missing
 pub mod MissingUnfolds
 mod FreeCommands
 mod FreeParts
-pub mod OfferedRows
 pub mod FreeNames
 pub mod Forked
-mod Examples

@@ -259,7 +259,7 @@ literals-known : (w : World) (x : Name) (d : DataDecl) (n : ℕ) (k : DataConstr
 literals-known w x d n k known i j = let e : constructor_named w k.name.name ≡ Some (OfData d n k) = known x d n k i j in rw e (eq-eqb n n refl)
 
 built-tried : (w : World) → ConstructorsAreKnown w → (at : Place) (x : Name) (ts : SeqTypes) (c : List Form) (n : ℕ) (vs : Trees) → IsValue w (Built n vs) (Named at x ts) → TriedHead w (Named at x ts) c (Built n vs)
-built-tried w known at x ts c n vs (d, k, i, j, typed) =
+built-tried w known at x ts c n vs (d, k, i, j, long, typed) =
     record {
       head = IsBuilt k.name.name (parts_at d (types.list_of ts) k);
       parts = list_of vs;

@@ -1,6 +1,6 @@
 -- The test of names decides whether they are the same.
-use Rattle.std.proofs.Common.{◌≡◌, ◌∙◌, ◌⊎◌, inl, inr, refl, sym, ℕ, Bool, true, false, ◌&&◌, [], ◌∷◌, eqb, eqb-true, eq-eqb, true≢false}
-use Rattle.campl_types.specs.Names.{Name, same_name}
+use Rattle.std.proofs.Common.{◌≡◌, ◌∙◌, ◌⊎◌, inl, inr, refl, sym, ap, ℕ, Bool, true, false, ◌&&◌, ◌||◌, List, [], ◌∷◌, ◌++◌, eqb, eqb-true, eq-eqb, true≢false}
+use Rattle.campl_types.specs.Names.{Name, same_name, is_among}
 
 first-same : (a b : ℕ) (c : Bool) → (eqb a b && c) ≡ true → a ≡ b
 first-same a b c i = eqb-true a b (go (eqb a b) c i)
@@ -40,6 +40,14 @@ same-turned (a ∷ x) (b ∷ y) = let p : eqb a b ≡ eqb b a = turned a b in le
         go false false i j = refl
         go true false i j = absurd (true≢false (sym (eq-eqb n m (sym (eqb-true m n i))) ∙ j))
         go false true i j = absurd (true≢false (sym (eq-eqb m n (sym (eqb-true n m j))) ∙ i))
+
+pub or-assoc : (a b c : Bool) → (a || (b || c)) ≡ ((a || b) || c)
+or-assoc true b c = refl
+or-assoc false b c = refl
+
+pub among-append : (x : Name) (xs ys : List Name) → is_among x (xs ++ ys) ≡ (is_among x xs || is_among x ys)
+among-append x [] ys = refl
+among-append x (y ∷ xs) ys = ap (λ b. same_name x y || b) (among-append x xs ys) ∙ or-assoc (same_name x y) (is_among x xs) (is_among x ys)
 
 -- the same name, or different ones
 pub split-names : (x y : Name) → (x ≡ y) ⊎ (same_name x y ≡ false)

@@ -1,13 +1,12 @@
 -- The free channel names of a body. A name is free where a command or a header names it, and no command of
 -- the body round that place binds it. In a well formed body the free names are exactly those that are held,
 -- so at a `fork` they tell which channels go to which body (proofs/FreeNames).
-use Rattle.std.specs.Prelude.{◌≡◌, Bool, true, false, not, ◌&&◌, ◌||◌, List, [], ◌∷◌, Some, None}
+use Rattle.std.specs.Prelude.{◌≡◌, Bool, false, not, ◌&&◌, ◌||◌, List, [], ◌∷◌, Some, None}
 use Rattle.campl_tree.specs.declared.place.Ident.{Ident}
 use Rattle.campl_tree.specs.declared.service.Side.{Side}
 use Rattle.campl_tree.specs.Plain.ChanType.{ChanType}
 use Rattle.campl_tree.specs.Plain.Process as b
 use Rattle.campl_tree.specs.Plain.Process.{Action, Body, HcaseRows, CaseRows, Branches, Parts}
-use Rattle.campl_tree.specs.Plain.Decl.{Decl, Data, Protocol, Coprotocol, Function, Process}
 use Rattle.campl_types.specs.Names.{Name, same_name, is_among}
 use Rattle.campl_types.specs.World.{World, names_of}
 use Rattle.campl_types.specs.Polarity.{Forks, deed}
@@ -69,26 +68,6 @@ abbrev mutual
   is_free_in_parts n b.no_parts = false
   is_free_in_parts n (b.part_then header body parts) =
       is_among n (names_of header.inputs) || (is_among n (names_of header.outputs) || (is_free n body || is_free_in_parts n parts))
-
--- Worlds in which an `hcase` has a row
-
--- whether there is anything
-abbrev pub is_nonempty : {A : Type 0} → List A → Bool
-is_nonempty [] = false
-is_nonempty (x ∷ xs) = true
-
--- whether a protocol or coprotocol has a constructor
-abbrev pub has_constructor : Decl → Bool
-has_constructor (Protocol d) = is_nonempty d.constructors
-has_constructor (Coprotocol d) = is_nonempty d.constructors
-has_constructor (Data d) = true
-has_constructor (Function d) = true
-has_constructor (Process d) = true
-
--- whether each of them has one. Without, a body may hold what it doesn't name: an `hcase` without rows
-abbrev pub all_have_constructors : World → Bool
-all_have_constructors [] = true
-all_have_constructors (d ∷ ds) = has_constructor d && all_have_constructors ds
 
 -- Forks
 

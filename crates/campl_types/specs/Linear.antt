@@ -47,13 +47,18 @@ AreNew x y z held = (without x held y ≡ None) × (without x held z ≡ None) �
 
 -- Rows
 
-abbrev choice_names : Choices → List Name
+abbrev pub choice_names : Choices → List Name
 choice_names [] = []
 choice_names (c ∷ cs) = c.0 ∷ choice_names cs
 
-abbrev row_names : HcaseRows → List Name
+abbrev pub row_names : HcaseRows → List Name
 row_names b.no_hcase_rows = []
 row_names (b.hcase_row_then k body rows) = k.name ∷ row_names rows
+
+-- whether there is a row
+abbrev pub has_row : HcaseRows → Bool
+has_row b.no_hcase_rows = false
+has_row (b.hcase_row_then k body rows) = true
 
 -- each constructor has one row
 abbrev pub HasEachOnce : HcaseRows → Choices → Type 0
@@ -63,7 +68,7 @@ abbrev pub body_rows : CaseRows → List Row
 body_rows b.no_case_rows = []
 body_rows (b.case_row_then p body rows) = (form_of p ∷ []) ∷ body_rows rows
 
-abbrev branch_names : Branches → List Name
+abbrev pub branch_names : Branches → List Name
 branch_names b.no_branches = []
 branch_names (b.branch_then x body rows) = x.name ∷ branch_names rows
 
@@ -117,7 +122,7 @@ abbrev mutual
       (s : Side) × (u : ChanType) × (held x.name ≡ Some (On s u)) × (deed w s u ≡ Ends) × HoldsOnly (x.name ∷ []) held
   IsWellFormed w vs held (b.Hcase at x rows) =
       (s : Side) × (u : ChanType) × (cs : Choices)
-      × (held x.name ≡ Some (On s u)) × (deed w s u ≡ Offers cs) × HasEachOnce rows cs × RowsAreWellFormed w vs held x.name s cs rows
+      × (held x.name ≡ Some (On s u)) × (deed w s u ≡ Offers cs) × HasEachOnce rows cs × RowsAreWellFormed w vs held x.name s cs rows × IsTrue (has_row rows)
   IsWellFormed w vs held (b.Fork at x y left z right) =
       (s : Side) × (u : ChanType) × (t : ChanType) × (r : ChanType) × (keep : Name → Bool)
       × (held x.name ≡ Some (On s u)) × (deed w s u ≡ Forks t r) × AreNew x.name y.name z.name held

@@ -1,7 +1,7 @@
--- The values of a type. A value of a data type is built by one of its constructors, which it names by
--- its line, from values of the parts' types. Any value is one of a type variable's, since a function
+-- The values of a type. A value of a data type, which stands with as many arguments as it has parameters, is
+-- built by one of its constructors, which it names by its line, from values of the parts' types. Any value is one of a type variable's, since a function
 -- looks at none of its parts.
-use Rattle.std.specs.Prelude.{◌≡◌, ℕ, ℤ, List, [], ◌∷◌, Option, Some, slice_get}
+use Rattle.std.specs.Prelude.{◌≡◌, ℕ, ℤ, List, [], ◌∷◌, Option, Some, slice_get, length}
 use Rattle.std.specs.Prelude as std
 use Rattle.campl_tree.specs.Plain.SeqType.{SeqType, SeqTypes, Variable}
 use Rattle.campl_tree.specs.Plain.SeqType as s
@@ -25,7 +25,8 @@ abbrev mutual
   IsValue w (Cell head tail) (s.List t) = IsValue w head t × IsValue w tail (s.List t)
   IsValue w (Pair a b) (s.Pair t u) = IsValue w a t × IsValue w b u
   IsValue w (Built n parts) (s.Named at x ts) =
-      (d : DataDecl) × (k : DataConstructor) × (data_named w x ≡ Some d) × (slice_get d.constructors n ≡ Some k) × AreValues w parts (parts_at d (list_of ts) k)
+      (d : DataDecl) × (k : DataConstructor) × (data_named w x ≡ Some d) × (slice_get d.constructors n ≡ Some k)
+      × (length (list_of ts) ≡ length d.parameters) × AreValues w parts (parts_at d (list_of ts) k)
   IsValue w _ _ = ⊥
 
   pub AreValues : World → Trees → List SeqType → Type 0

@@ -6,3 +6,4 @@ pub mod Falls
 pub mod Made
 pub mod Text
 pub mod Compare
+pub mod Messages

@@ -7,8 +7,6 @@ mod escape;
 mod front;
 mod kinds;
 mod laws;
-#[cfg(test)]
-mod tests;
 mod tokens;
 mod word;
 

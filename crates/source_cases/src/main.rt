@@ -30,7 +30,7 @@ fn phase_of(word: &str) -> Result<Phase> {
 
 // The text of a file.
 fn text_of(rt: &impl Files, alloc: Global, file: &str) -> Result<Text> {
-    let mut shelf = FileShelf::new(rt);
+    let mut shelf = FileShelf::new(rt, alloc);
     match read_text(alloc, &mut shelf, file, SOURCE_LIMIT) {
         Ok(text) => Ok(text),
         Err(_) => bail!("the file is no text within the limit"),

@@ -1,5 +1,5 @@
 -- The last commands of a derivation, and the derivation of a process.
-use Rattle.std.proofs.Common.{◌≡◌, Bool, false, not, ◌&&◌, IsTrue, List, [], ◌∷◌, ◌++◌, Some, length, nat_le}
+use Rattle.std.proofs.Common.{◌≡◌, refl, Bool, false, not, ◌&&◌, IsTrue, List, [], ◌∷◌, ◌++◌, Some, length, nat_le}
 use Rattle.campl_tree.specs.declared.place.Place.{Place}
 use Rattle.campl_tree.specs.declared.place.Ident.{Ident}
 use Rattle.campl_tree.specs.declared.service.Side.{Side}
@@ -29,10 +29,10 @@ use Rattle.typed_sources.proofs.Actions.{Flows}
 pub record RowsFlow (w : World) (vs : Vars) (names : List Name) (held : Held) (x : Name) (s : Side) (cs : Choices) (rows : HcaseRows) : Type 0 where
   pub well-formed : Within names held → RowsAreWellFormed w vs held x s cs rows
 
-pub hcase : {w : World} {vs : Vars} {names : List Name} {held : Held} {at : Place} {x : Ident} {rows : HcaseRows} {s : Side} {u : ChanType} {cs : Choices}
-    → held x.name ≡ Some (On s u) → deed w s u ≡ Offers cs → HasEachOnce rows cs → RowsFlow w vs names held x.name s cs rows
-    → Flows w vs names held (b.Hcase at x rows)
-hcase i j once next = record { well-formed = λ h. (_, _, _, i, j, once, next.well-formed h) }
+pub hcase : {w : World} {vs : Vars} {names : List Name} {held : Held} {at : Place} {x : Ident} {k : Ident} {body : Body} {rows : HcaseRows} {s : Side} {u : ChanType} {cs : Choices}
+    → held x.name ≡ Some (On s u) → deed w s u ≡ Offers cs → HasEachOnce (b.hcase_row_then k body rows) cs → RowsFlow w vs names held x.name s cs (b.hcase_row_then k body rows)
+    → Flows w vs names held (b.Hcase at x (b.hcase_row_then k body rows))
+hcase i j once next = record { well-formed = λ h. (_, _, _, i, j, once, next.well-formed h, refl) }
 
 pub no-rows : {w : World} {vs : Vars} {names : List Name} {held : Held} {x : Name} {s : Side} {cs : Choices} → RowsFlow w vs names held x s cs b.no_hcase_rows
 no-rows = record { well-formed = λ h. tt }

@@ -1,8 +1,8 @@
 use Rattle.std.proofs.Common.{◌≡◌, ◌≤◌, ◌+◌, ◌-◌, ◌*◌, drop}
 use Rattle.std.specs.List.{fold}
 use Rattle.campl_lex.specs.Spelling.{number_of}
-use Rattle.campl_lex.specs.declared.limits.TheConstants.{NUMBER_MAX}
+use Rattle.campl_lex.specs.Limits.{greatest_number}
 use Rattle.campl_lex.proofs.letters.number_fits.Given as goal
 
 abbrev pub invariant-loop-digit : goal.invariant-loop-digit
-invariant-loop-digit l = (fold (λ n d. n * 10 + (d - 48)) l.value (drop l.digit-index l.digits) ≡ number_of l.digits) × (l.value ≤ NUMBER_MAX)
+invariant-loop-digit l = (fold (λ n d. n * 10 + (d - 48)) l.value (drop l.digit-index l.digits) ≡ number_of l.digits) × (l.value ≤ greatest_number)

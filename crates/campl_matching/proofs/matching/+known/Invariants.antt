@@ -3,7 +3,7 @@ use Rattle.campl_tree.specs.View.{view_seq, seq_types}
 use Rattle.campl_types.specs.Names.{all_among}
 use Rattle.campl_types.specs.Substitution.{variables_of_all}
 use Rattle.campl_matching.specs.Matching.{bound_names}
-use Rattle.campl_types.specs.Filling.{view_filling}
+use Rattle.campl_names.specs.Filling.{view_filling}
 use Rattle.campl_matching.proofs.matching.+known.Given as goal
 
 abbrev pub invariant-are_known-loop-i : goal.invariant-are_known-loop-i

@@ -1,7 +1,7 @@
 use Rattle.std.proofs.Common.{◌≡◌, drop, length, map, take}
 use Rattle.campl_tree.specs.View.{view_seq, seq_types}
 use Rattle.campl_matching.specs.Matching.{all_matched}
-use Rattle.campl_types.specs.Filling.{view_filling}
+use Rattle.campl_names.specs.Filling.{view_filling}
 use Rattle.campl_matching.proofs.matching.+matched.Given as goal
 
 abbrev pub invariant-match_types-loop-i : goal.invariant-match_types-loop-i

@@ -1,0 +1,4 @@
+pub mod Reads
+pub mod Pieces
+pub mod Patterns
+pub mod Expressions

@@ -1,0 +1,119 @@
+//! The words that are still to read.
+ghost use Rattle.std.specs.Prelude.{◌≡◌, ◌≤◌, [], ◌∷◌, OnOk, MatchResult, IsTrue, ◌↔◌, length};
+ghost use Rattle.campl_gram.specs.Reading.{next_in, expect};
+ghost use Rattle.campl_gram.specs.Grammar.{place_at};
+ghost use Rattle.campl_grammar.specs.Word.{same, terminals};
+ghost use Rattle.campl_grammar.specs.Rules.{piece, lower, upper, limit};
+ghost use Rattle.campl_parse_terms.specs.Reads.{Reads, Fails};
+
+use crate::error::ParseError;
+use crate::{made, read};
+use campl_gram::Fault;
+use campl_grammar::Kind;
+use campl_tree::{Ident, Place};
+use campl_words::Word;
+use std::alloc::Global;
+use std::marker::Model;
+
+/// The greatest nesting that is no fault.
+pub const DEPTH_MAX: u32 = 200;
+
+/// What is left of the words of a source. Contracts see it as the list of these words.
+#[derive(Drop)]
+pub struct Cursor<'a> {
+    rest: &'a [Word<'a>],
+}
+
+impl<'a> Model for Cursor<'a> {
+    ghost use Rattle.std.specs.Prelude.{List};
+    ghost use Rattle.campl_grammar.specs.Word.{Word};
+
+    ghost Value = { List Word };
+
+    ghost view = { λ c. c.rest.now };
+}
+
+/// Whether two kinds are the same.
+#[tactic(auto, unfolding(campl_grammar::specs::Word::same))]
+fn same_kind(a: Kind, b: Kind) -> bool
+    ensures { result ≡ same a b }
+{
+    a == b
+}
+
+impl<'a> Cursor<'a> {
+    /// Stands before the first of these words.
+    pub fn new(words: &'a [Word<'a>]) -> Cursor<'a>
+        ensures { result ≡ words.now }
+    {
+        Cursor { rest: words }
+    }
+
+    /// Whether the next word is of this kind.
+    #[tactic(auto, unfolding(campl_grammar::specs::Word::terminals))]
+    pub fn at(&self, kind: Kind) -> bool
+        ensures { result ≡ next_in terminals (kind ∷ []) self.now }
+    {
+        match self.rest {
+            [] => false,
+            [word, ..] => same_kind(word.kind(), kind),
+        }
+    }
+
+    /// The place of the next word, or no place where there is none.
+    #[tactic(auto, unfolding(campl_grammar::specs::Word::terminals))]
+    pub fn place(&self) -> Place
+        ensures { result ≡ place_at terminals self.now }
+    {
+        match self.rest {
+            [] => Place { line: 0, column: 0 },
+            [word, ..] => word.place(),
+        }
+    }
+
+    /// Whether no word is left.
+    pub fn is_at_end(&self) -> bool
+        ensures { IsTrue result ↔ (self.now ≡ []) }
+    {
+        self.rest.is_empty()
+    }
+
+    /// Takes a word of this kind, nested so deep.
+    #[tactic(auto, unfolding(campl_grammar::specs::Word::terminals))]
+    pub fn expect(&mut self, kind: Kind, depth: u32) -> Result<&'a Word<'a>, ParseError>
+        ensures reads { MatchResult result (λ word. expect terminals limit kind depth self.old ≡ (Ok word.now, self.new)) (λ e. Fails (expect terminals limit kind depth self.old) e self.new) }
+        ensures shallow { OnOk result (depth ≤ 200) }
+    {
+        match self.rest {
+            [] => Err(ParseError::Refused(Fault::Unexpected)),
+            [word, rest @ ..] => {
+                if !same_kind(word.kind(), kind) {
+                    return Err(ParseError::Refused(Fault::Unexpected));
+                }
+                if depth > DEPTH_MAX {
+                    return Err(ParseError::Refused(Fault::TooDeep));
+                }
+                self.rest = rest;
+                Ok(word)
+            }
+        }
+    }
+
+    /// Takes a name that begins with a small letter.
+    pub fn lower(&mut self, alloc: Global, depth: u32) -> Result<Ident, ParseError>
+        ensures reads { Reads (piece lower depth self.old) result self.new }
+        ensures shallow { OnOk result (depth ≤ 200) }
+    {
+        let word = read!(self.expect(Kind::Lower, depth));
+        Ok(made!(word.ident(alloc)))
+    }
+
+    /// Takes a name that begins with `A` to `Z`.
+    pub fn upper(&mut self, alloc: Global, depth: u32) -> Result<Ident, ParseError>
+        ensures reads { Reads (piece upper depth self.old) result self.new }
+        ensures shallow { OnOk result (depth ≤ 200) }
+    {
+        let word = read!(self.expect(Kind::Upper, depth));
+        Ok(made!(word.ident(alloc)))
+    }
+}

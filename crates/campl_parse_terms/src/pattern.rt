@@ -1,0 +1,221 @@
+//! Patterns.
+ghost use Rattle.std.specs.Prelude.{◌≡◌, ◌≤◌, OnOk};
+ghost use Rattle.campl_gram.specs.Reading.{next_in, adds};
+ghost use Rattle.campl_grammar.specs.Word.{terminals};
+ghost use Rattle.campl_grammar.specs.Tables.{starts};
+ghost use Rattle.campl_grammar.specs.Rules.{read, piece, some_patterns as some_patterns_piece};
+ghost use Rattle.campl_grammar.specs.Names.{patterns as patterns_name, pattern as pattern_name, patom as patom_name, constructor_pattern as constructor_pattern_name, list_pattern as list_pattern_name, simple_pattern as simple_pattern_name, grouped_pattern as grouped_pattern_name};
+ghost use Rattle.campl_parse_terms.specs.Patterns.{literal_pattern as literal_pattern_piece};
+ghost use Rattle.campl_parse_terms.specs.Reads.{Reads};
+
+use crate::cursor::Cursor;
+use crate::error::ParseError;
+use crate::{made, read};
+use campl_grammar::Kind;
+use campl_tree::Pattern;
+use sqlite_items::{Boxed, Items};
+use std::alloc::Global;
+
+/// Whether a pattern of one word may begin with the next word, or a negative number.
+fn starts_simple(cursor: &Cursor<'_>) -> bool
+    ensures { result ≡ next_in terminals (starts simple_pattern_name) cursor.now }
+{
+    cursor.at(Kind::Wildcard)
+        || cursor.at(Kind::Lower)
+        || cursor.at(Kind::Number)
+        || cursor.at(Kind::Minus)
+        || cursor.at(Kind::Character)
+        || cursor.at(Kind::Text)
+        || cursor.at(Kind::True)
+        || cursor.at(Kind::False)
+}
+
+/// Whether a pattern may begin with the next word.
+#[tactic(auto, using(crate::proofs::Starts::starts_patterns))]
+fn starts_pattern(cursor: &Cursor<'_>) -> bool
+    ensures { result ≡ next_in terminals (starts patterns_name) cursor.now }
+{
+    starts_simple(cursor)
+        || cursor.at(Kind::Upper)
+        || cursor.at(Kind::LeftBracket)
+        || cursor.at(Kind::LeftParen)
+}
+
+/// A number, a negative number, a character, a text or a truth value.
+fn literal_pattern(
+    alloc: Global,
+    cursor: &mut Cursor<'_>,
+    depth: u32,
+) -> Result<Pattern, ParseError>
+    ensures { Reads (piece literal_pattern_piece depth cursor.old) result cursor.new }
+{
+    if cursor.at(Kind::Number) {
+        let word = read!(cursor.expect(Kind::Number, depth));
+        return Ok(Pattern::Number(word.place(), word.number()));
+    }
+    if cursor.at(Kind::Minus) {
+        let place = read!(cursor.expect(Kind::Minus, depth)).place();
+        let word = read!(cursor.expect(Kind::Number, depth));
+        return Ok(Pattern::Negative(place, word.number()));
+    }
+    if cursor.at(Kind::Character) {
+        let word = read!(cursor.expect(Kind::Character, depth));
+        return Ok(Pattern::Character(word.place(), word.character()));
+    }
+    if cursor.at(Kind::Text) {
+        let word = read!(cursor.expect(Kind::Text, depth));
+        return Ok(Pattern::Text(word.place(), made!(word.text(alloc))));
+    }
+    if cursor.at(Kind::True) {
+        let word = read!(cursor.expect(Kind::True, depth));
+        return Ok(Pattern::True(word.place()));
+    }
+    let word = read!(cursor.expect(Kind::False, depth));
+    Ok(Pattern::False(word.place()))
+}
+
+/// A pattern without parts.
+#[tactic(auto, using(campl_grammar::proofs::ByRule::reads_simple_pattern))]
+fn simple_pattern(alloc: Global, cursor: &mut Cursor<'_>, depth: u32) -> Result<Pattern, ParseError>
+    ensures { Reads (read simple_pattern_name depth cursor.old) result cursor.new }
+{
+    if cursor.at(Kind::Wildcard) {
+        let word = read!(cursor.expect(Kind::Wildcard, depth));
+        return Ok(Pattern::Wildcard(word.place()));
+    }
+    if cursor.at(Kind::Lower) {
+        let word = read!(cursor.expect(Kind::Lower, depth));
+        return Ok(Pattern::Variable(word.place(), made!(word.name(alloc))));
+    }
+    literal_pattern(alloc, cursor, depth)
+}
+
+/// A pattern that isn't `p : q`.
+#[cycle(pattern)]
+#[tactic(auto, using(campl_grammar::proofs::ByRule::reads_patom))]
+fn patom(alloc: Global, cursor: &mut Cursor<'_>, depth: u32) -> Result<Pattern, ParseError>
+    ensures { Reads (read patom_name depth cursor.old) result cursor.new }
+{
+    if starts_simple(cursor) {
+        return simple_pattern(alloc, cursor, depth);
+    }
+    if cursor.at(Kind::Upper) {
+        return constructor_pattern(alloc, cursor, depth);
+    }
+    if cursor.at(Kind::LeftBracket) {
+        return list_pattern(alloc, cursor, depth);
+    }
+    grouped_pattern(alloc, cursor, depth)
+}
+
+/// A constructor and, in parentheses, its parts.
+#[cycle(pattern)]
+#[tactic(auto, using(campl_grammar::proofs::ByRule::reads_constructor_pattern, campl_gram::proofs::Lists::adds_none))]
+fn constructor_pattern(
+    alloc: Global,
+    cursor: &mut Cursor<'_>,
+    depth: u32,
+) -> Result<Pattern, ParseError>
+    ensures { Reads (read constructor_pattern_name depth cursor.old) result cursor.new }
+{
+    let word = read!(cursor.expect(Kind::Upper, depth));
+    let name = made!(word.name(alloc));
+    let parts = Items::new(alloc);
+    if !cursor.at(Kind::LeftParen) {
+        return Ok(Pattern::Constructor(word.place(), name, parts));
+    }
+    read!(cursor.expect(Kind::LeftParen, depth));
+    let parts = read!(patterns(alloc, cursor, depth + 1, parts));
+    read!(cursor.expect(Kind::RightParen, depth + 1));
+    Ok(Pattern::Constructor(word.place(), name, parts))
+}
+
+/// Patterns in brackets.
+#[cycle(pattern)]
+#[tactic(auto, using(campl_grammar::proofs::ByRule::reads_list_pattern))]
+fn list_pattern(alloc: Global, cursor: &mut Cursor<'_>, depth: u32) -> Result<Pattern, ParseError>
+    ensures { Reads (read list_pattern_name depth cursor.old) result cursor.new }
+{
+    let place = cursor.place();
+    read!(cursor.expect(Kind::LeftBracket, depth));
+    let parts = read!(some_patterns(alloc, cursor, depth + 1));
+    read!(cursor.expect(Kind::RightBracket, depth + 1));
+    Ok(Pattern::List(place, parts))
+}
+
+/// A pattern in parentheses, or a pair.
+#[cycle(pattern)]
+#[tactic(auto, using(campl_grammar::proofs::ByRule::reads_grouped_pattern))]
+fn grouped_pattern(
+    alloc: Global,
+    cursor: &mut Cursor<'_>,
+    depth: u32,
+) -> Result<Pattern, ParseError>
+    ensures { Reads (read grouped_pattern_name depth cursor.old) result cursor.new }
+{
+    let place = cursor.place();
+    read!(cursor.expect(Kind::LeftParen, depth));
+    let left = read!(pattern(alloc, cursor, depth + 1));
+    if !cursor.at(Kind::Comma) {
+        read!(cursor.expect(Kind::RightParen, depth + 1));
+        return Ok(left);
+    }
+    read!(cursor.expect(Kind::Comma, depth + 1));
+    let right = read!(pattern(alloc, cursor, depth + 2));
+    read!(cursor.expect(Kind::RightParen, depth + 1));
+    let left = made!(Boxed::new(alloc, left));
+    Ok(Pattern::Pair(place, left, made!(Boxed::new(alloc, right))))
+}
+
+/// A pattern.
+#[cycle(pattern)]
+#[tactic(auto, using(campl_grammar::proofs::ByRule::reads_pattern))]
+pub fn pattern(alloc: Global, cursor: &mut Cursor<'_>, depth: u32) -> Result<Pattern, ParseError>
+    ensures { Reads (read pattern_name depth cursor.old) result cursor.new }
+{
+    let place = cursor.place();
+    let left = read!(patom(alloc, cursor, depth));
+    if !cursor.at(Kind::Colon) {
+        return Ok(left);
+    }
+    read!(cursor.expect(Kind::Colon, depth));
+    let right = read!(pattern(alloc, cursor, depth + 1));
+    let left = made!(Boxed::new(alloc, left));
+    Ok(Pattern::Cons(place, left, made!(Boxed::new(alloc, right))))
+}
+
+/// Adds patterns with commas between them.
+#[cycle(pattern)]
+#[tactic(auto, using(campl_grammar::proofs::ByRule::reads_patterns, campl_gram::proofs::Lists::adds_one))]
+fn patterns(
+    alloc: Global,
+    cursor: &mut Cursor<'_>,
+    depth: u32,
+    mut found: Items<Pattern>,
+) -> Result<Items<Pattern>, ParseError>
+    ensures { Reads (adds found (read patterns_name depth cursor.old)) result cursor.new }
+{
+    made!(found.push(read!(pattern(alloc, cursor, depth))));
+    if !cursor.at(Kind::Comma) {
+        return Ok(found);
+    }
+    read!(cursor.expect(Kind::Comma, depth));
+    patterns(alloc, cursor, depth + 1, found)
+}
+
+/// Patterns with commas between them, or none.
+#[cycle(pattern)]
+#[tactic(auto, using(campl_gram::proofs::Lists::adds_none))]
+pub fn some_patterns(
+    alloc: Global,
+    cursor: &mut Cursor<'_>,
+    depth: u32,
+) -> Result<Items<Pattern>, ParseError>
+    ensures { Reads (piece some_patterns_piece depth cursor.old) result cursor.new }
+{
+    let found = Items::new(alloc);
+    if !starts_pattern(cursor) {
+        return Ok(found);
+    }
+    patterns(alloc, cursor, depth, found)
+}

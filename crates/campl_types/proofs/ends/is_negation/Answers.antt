@@ -1,5 +1,0 @@
-use Rattle.campl_types.proofs.UnlikeChan.{no-negation}
-use Rattle.campl_types.proofs.ends.is_negation.Goals as goal
-
-pub returns-in_default : goal.returns-in_default
-returns-in_default c = no-negation _ _ c.in_default.not-Neg

@@ -1,7 +1,0 @@
-use Rattle.std.proofs.Common.{◌≡◌, drop}
-use Rattle.campl_types.specs.Patterns.{bound_by_all}
-use Rattle.campl_types.specs.Scope.{with_names}
-use Rattle.campl_types.proofs.judge_decls.bind_all.Given as goal
-
-abbrev pub invariant-loop-i : goal.invariant-loop-i
-invariant-loop-i l = with_names l.scope (bound_by_all (drop l.i l.binders)) ≡ with_names l.initial.scope (bound_by_all l.binders)

@@ -1,7 +1,0 @@
-use Rattle.std.proofs.Common.{◌≡◌, drop, map}
-use Rattle.campl_tree.specs.View.{view_decl}
-use Rattle.campl_types.specs.Known.{each, in_decl}
-use Rattle.campl_types.proofs.judge_decls.judge_decls.Given as goal
-
-abbrev pub invariant-loop-i : goal.invariant-loop-i
-invariant-loop-i l = each (in_decl (map view_decl l.world)) (map view_decl (drop l.i l.declarations)) ≡ each (in_decl (map view_decl l.world)) (map view_decl l.declarations)

@@ -1,6 +1,0 @@
-use Rattle.std.proofs.Common.{sym, arith}
-use Rattle.campl_types.proofs.Runs.{named-more}
-use Rattle.campl_types.proofs.run.is_alone.Goals as goal
-
-pub returns : goal.returns
-returns c = sym (named-more c.args.name.now c.args.other.now c.args.at c.args.ts.now (omega (arith, c.if-ts-eq0.false)))
