@@ -83,8 +83,8 @@ fn are_few(inputs: usize, outputs: usize) -> bool
 fn all_named(ts: &[ChanType], name: &Name) -> bool
     ensures { result ≡ all (is_type_named name.now) (map view_chan ts.now) }
 {
-    for i in 0..ts.len() {
-        if !is_named(&ts[i], name) {
+    for t in ts {
+        if !is_named(t, name) {
             return false;
         }
     }

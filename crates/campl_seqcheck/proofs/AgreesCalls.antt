@@ -5,8 +5,8 @@ use Rattle.campl_tree.specs.Plain.SeqType.{SeqType, Variable}
 use Rattle.campl_tree.specs.Plain.Expr as e
 use Rattle.campl_tree.specs.Plain.Expr.{Expr, Exprs}
 use Rattle.campl_tree.specs.Plain.Decl.{FunctionDecl, DataDecl}
-use Rattle.campl_types.specs.Names.{Name, same_name, is_among, all_among, without, once}
-use Rattle.campl_types.proofs.Names.{same-is}
+use Rattle.campl_types.specs.Names.{Name, same_name, is_among, all_among, without, once, Within}
+use Rattle.campl_types.proofs.Names.{same-is, among-append}
 use Rattle.campl_types.specs.SameType.{IsSame, bare, nowhere}
 use Rattle.campl_types.specs.Substitution.{Filling, filling, filled, types_of, variables_of, variables_of_all}
 use Rattle.campl_types.specs.Fits.{Vars}
@@ -19,7 +19,9 @@ use Rattle.campl_matching.specs.Matching.{bound_names, is_known, matched}
 use Rattle.campl_seqcheck.specs.Judging.{Wanted, meets, begun, all_bound, called, judge, judge_parts}
 use Rattle.campl_seqcheck.proofs.AgreesJudged.{in-turn, counts}
 use Rattle.campl_seqcheck.proofs.AgreesSame.{Meets, meets-is}
-use Rattle.campl_seqcheck.proofs.AgreesNames.{as-false, among-append, or-second, Within, SameNames, among-within, within-among, within-left, within-right, among-same, arguments_in, arguments-long, arguments-fill}
+use Rattle.campl_types.proofs.Truth.{as-false, or-second}
+use Rattle.campl_types.proofs.Among.{SameNames, among-within, within-among, within-left, within-right, among-same}
+use Rattle.campl_seqcheck.proofs.AgreesNames.{arguments_in, arguments-long, arguments-fill}
 use Rattle.campl_seqcheck.proofs.AgreesMatch.{Extends, extends-itself, extends-on, filled-kept, bound-then, match-fills}
 use Rattle.campl_seqcheck.proofs.AgreesStable.{type-stable}
 

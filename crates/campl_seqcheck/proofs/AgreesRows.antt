@@ -1,5 +1,5 @@
 -- Rows whose judging has no fault miss no value.
-use Rattle.std.proofs.Common.{◌≡◌, refl, sym, ap, subst, ℕ, suc, true, true≢false, List, [], ◌∷◌, Option, Some, None, is_some, map, length, arith}
+use Rattle.std.proofs.Common.{◌≡◌, refl, ap, subst, ℕ, List, [], ◌∷◌, Option, Some, None, map, length, arith}
 use Rattle.campl_tree.specs.declared.place.Place.{Place}
 use Rattle.campl_tree.specs.Plain.Decl.{Program, FunctionDecl, FunctionRow}
 use Rattle.campl_tree.specs.Plain.Expr as e
@@ -7,13 +7,13 @@ use Rattle.campl_tree.specs.Plain.Expr.{ExprRows}
 use Rattle.campl_tree.specs.Plain.Pattern.{Patterns, no_patterns, pattern_then}
 use Rattle.campl_tree.specs.Plain.SeqType.{SeqType}
 use Rattle.campl_value.specs.Tree.{Tree}
-use Rattle.campl_types.specs.Matching.{Bindings, first_match}
+use Rattle.campl_types.specs.Matching.{SomeRowMatches}
 use Rattle.campl_types.specs.Values.{AllAreValues}
 use Rattle.campl_types.specs.WellDeclared.{IsWellDeclared}
-use Rattle.campl_types.proofs.Missing.{AsLong, AllAsLong, nothing-missing}
+use Rattle.campl_types.proofs.Missing.{nothing-missing}
 use Rattle.campl_types.proofs.DeclaredOnce.{well-declared-constructors}
 use Rattle.campl_types.specs.Forms.{Form, form_of, part_forms, list_of}
-use Rattle.campl_types.specs.Missing.{Row, missing}
+use Rattle.campl_types.specs.Missing.{Row, missing, AsLong, AllAsLong}
 use Rattle.campl_types.specs.Sequential.{expr_rows, function_rows}
 use Rattle.campl_types.specs.World.{World, world_of}
 use Rattle.campl_seqcheck.specs.Judged.{Is, Fine, fine}
@@ -62,14 +62,10 @@ rows-long w ts (r ∷ rows) f i =
     let l = in-turn (counted r.place (number_of r.patterns) (length ts)) (λ y. fit_all w [] r.patterns ts) k.0 k.1 in
     (long-by r.patterns ts (counts r.place (number_of r.patterns) (length ts) l.0 l.1), rows-long w ts rows f j.2)
 
-row-matched : (o : Option (ℕ × Bindings)) → is_some o ≡ true → (m : ℕ × Bindings) × (o ≡ Some m)
-row-matched (Some m) i = (m, refl)
-row-matched None i = absurd (true≢false (sym i))
-
 pub a-row-matches : (source : Program) → IsWellDeclared source → (at : Place) (ts : List SeqType) (rows : List MatchRow) → judge_match at (world_of source) ts rows ≡ Is fine
-    → (vs : List Tree) → AllAreValues (world_of source) vs ts → (m : ℕ × Bindings) × (first_match (world_of source) (match_forms rows) vs ≡ Some m)
+    → (vs : List Tree) → AllAreValues (world_of source) vs ts → SomeRowMatches (world_of source) (match_forms rows) vs
 a-row-matches source i at ts rows j vs values =
     let w = world_of source in
     let k = in-turn (judge_each_row w ts rows) (λ y. exhaustive at w (match_forms rows) ts) fine j in
     let none = exhaustive-is at w (match_forms rows) ts fine k.2 in
-    row-matched (first_match w (match_forms rows) vs) (nothing-missing w (well-declared-constructors source i) (match_forms rows) ts vs (rows-long w ts rows k.0 k.1) none values)
+    nothing-missing w (well-declared-constructors source i) (match_forms rows) ts vs (rows-long w ts rows k.0 k.1) none values

@@ -8,7 +8,6 @@ pub mod AgreesCalls
 pub mod AgreesWanted
 pub mod AgreesRows
 pub mod AgreesSound
-pub mod AgreesWorlds
 pub mod AgreesAlike
 pub mod AgreesRefit
 pub mod AgreesMissing

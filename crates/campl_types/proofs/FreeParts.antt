@@ -23,18 +23,18 @@ no-more-than-header false false a c f g k e r = ap (λ p. p || g) e ∙ r
 
 -- How often names stand
 
-abbrev stands : ℕ → Bool
+abbrev pub stands : ℕ → Bool
 stands zero = false
 stands (suc m) = true
 
-stands-sum : (m n : ℕ) → stands (m + n) ≡ (stands m || stands n)
+pub stands-sum : (m n : ℕ) → stands (m + n) ≡ (stands m || stands n)
 stands-sum zero n = ap stands (omega arith)
 stands-sum (suc m) n = ap stands (sum m n)
   where
     sum : (m n : ℕ) → suc m + n ≡ suc (m + n)
     sum m n = omega arith
 
-among-times : (n : Name) (xs : List Ident) → is_among n (names_of xs) ≡ stands (times n xs)
+pub among-times : (n : Name) (xs : List Ident) → is_among n (names_of xs) ≡ stands (times n xs)
 among-times n [] = refl
 among-times n (x ∷ xs) = (λ k. one (same_name n x.name) k || among-times n xs k) ∙ sym (stands-sum (one_if (same_name n x.name)) (times n xs))
   where
@@ -48,7 +48,7 @@ four false true true p = refl
 four false true false p = refl
 four false false j p = refl
 
-headers-times : (n : Name) (parts : b.Parts) → in_headers n parts ≡ (stands (times_in n parts) || stands (times_out n parts))
+pub headers-times : (n : Name) (parts : b.Parts) → in_headers n parts ≡ (stands (times_in n parts) || stands (times_out n parts))
 headers-times n b.no_parts = refl
 headers-times n (b.part_then h body parts) =
     (λ k. among-times n h.inputs k || (among-times n h.outputs k || headers-times n parts k))
@@ -57,7 +57,7 @@ headers-times n (b.part_then h body parts) =
 
 -- Links
 
-among-links : (n : Name) (ls : List b.Link) → is_among n (link_names ls) ≡ is_some (links_in ls n)
+pub among-links : (n : Name) (ls : List b.Link) → is_among n (link_names ls) ≡ is_some (links_in ls n)
 among-links n [] = refl
 among-links n (l ∷ ls) = go (same_name n l.name.name) (among-links n ls)
   where

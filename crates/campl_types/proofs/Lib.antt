@@ -1,11 +1,20 @@
+pub mod Truth
 pub mod Names
+pub mod Among
+pub mod Listed
 pub mod SameType
 pub mod DeclaredOnce
+pub mod PartsKnown
+pub mod Lowers
+pub mod Bare
+pub mod Deeds
+pub mod EachOnce
 pub mod Turned
 pub mod Instances
 pub mod Missing
+pub mod TypedRows
 pub mod MissingUnfolds
 mod FreeCommands
-mod FreeParts
+pub mod FreeParts
 pub mod FreeNames
 pub mod Forked

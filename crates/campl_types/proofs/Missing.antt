@@ -1,4 +1,4 @@
--- Where nothing is missing, each list of values of the types matches a row.
+-- Where nothing is missing, each list of values of the types matches a row, and the first that it matches is known.
 use Rattle.std.proofs.Common.{◌≡◌, refl, sym, ap, subst, ◌∙◌, ℕ, zero, suc, Bool, true, false, ◌&&◌, ◌||◌, ◌⊎◌, inl, inr, List, [], ◌∷◌, ◌++◌, Option, Some, None, is_some, if◌then◌else◌, eqb, eqb-true, eq-eqb, map, length, slice_get, option_map, true≢false}
 use Rattle.campl_tree.specs.declared.place.Place.{Place}
 use Rattle.campl_tree.specs.Plain.SeqType.{SeqType, SeqTypes, Named, Variable}
@@ -7,13 +7,14 @@ use Rattle.campl_tree.specs.Plain.Decl.{DataDecl, DataConstructor}
 use Rattle.campl_value.specs.Tree.{Tree, Trees, Truth, Nil, Cell, Pair, Built, none, more, list_of}
 use Rattle.campl_types.specs.Names.{Name, same_name}
 use Rattle.campl_types.proofs.Names.{same-is}
+use Rattle.campl_types.proofs.Truth.{and-first, and-second, or-first, or-second, or-split}
 use Rattle.campl_types.specs.Substitution as types
 use Rattle.campl_types.specs.Forms as f
 use Rattle.campl_types.specs.Forms.{Form, Forms, anythings}
 use Rattle.campl_types.specs.Values.{IsValue, AreValues, AllAreValues, ConstructorsAreKnown, parts_at}
 use Rattle.campl_types.specs.World.{World, OfData, constructor_named, data_named}
-use Rattle.campl_types.specs.Matching.{Bindings, both, matched, all_matched, row_matched, first_match, or_next, next_row, number_of, is_number, same_truth}
-use Rattle.campl_types.specs.Missing.{Row, Head, IsNumber, IsCharacter, IsTruth, IsNil, IsCons, IsPair, IsBuilt, IsOther, parts_of, heads, opened, opened_rows, and_then, put_back, all_open, column, or_try, first_missing, missing_by, missing_within, missing, literals}
+use Rattle.campl_types.specs.Matching.{Bindings, both, matched, all_matched, row_matched, number_of, is_number, same_truth, SomeRowMatches}
+use Rattle.campl_types.specs.Missing.{Row, AsLong, AllAsLong, Head, IsNumber, IsCharacter, IsTruth, IsNil, IsCons, IsPair, IsBuilt, IsOther, parts_of, heads, opened, opened_rows, and_then, put_back, all_open, column, or_try, first_missing, missing_by, missing_within, missing, literals}
 
 -- Whether rows match, as truth values
 
@@ -49,25 +50,6 @@ hits-parts w (f.more p ps) none = refl
 and-intro : {a b : Bool} → a ≡ true → b ≡ true → (a && b) ≡ true
 and-intro i j = rw i j
 
-and-first : (a b : Bool) → (a && b) ≡ true → a ≡ true
-and-first true b i = refl
-and-first false b i = i
-
-and-second : (a b : Bool) → (a && b) ≡ true → b ≡ true
-and-second true b i = i
-and-second false b i = absurd (true≢false (sym i))
-
-or-split : (a b : Bool) → (a || b) ≡ true → (a ≡ true) ⊎ (b ≡ true)
-or-split true b i = inl refl
-or-split false b i = inr i
-
-or-first : (a b : Bool) → a ≡ true → (a || b) ≡ true
-or-first a b i = rw i refl
-
-or-second : (a b : Bool) → b ≡ true → (a || b) ≡ true
-or-second true b i = refl
-or-second false b i = i
-
 truth-same : (b : Bool) → same_truth b b ≡ true
 truth-same true = refl
 truth-same false = refl
@@ -78,16 +60,6 @@ truth-moves false false c i j = j
 truth-moves false true c i j = absurd (true≢false (sym i))
 
 -- Rows as long as the types
-
-abbrev pub AsLong : Row → List SeqType → Type 0
-AsLong [] [] = Unit {0}
-AsLong (p ∷ ps) (t ∷ ts) = AsLong ps ts
-AsLong [] (t ∷ ts) = ⊥
-AsLong (p ∷ ps) [] = ⊥
-
-abbrev pub AllAsLong : List Row → List SeqType → Type 0
-AllAsLong [] ts = Unit {0}
-AllAsLong (r ∷ rows) ts = AsLong r ts × AllAsLong rows ts
 
 long-append : (qs ps : Row) (us ts : List SeqType) → AsLong qs us → AsLong ps ts → AsLong (qs ++ ps) (us ++ ts)
 long-append [] ps [] ts i j = j
@@ -337,18 +309,18 @@ within : (n : ℕ) (w : World) → ConstructorsAreKnown w → Deeper w (missing_
 within zero w known = by-columns w known (λ rows ts. Some (anythings (length ts))) (λ rows ts vs i. absurd (cc i))
 within (suc n) w known = by-columns w known (missing_within n w) (within n w known)
 
-some-next : (o : Option (ℕ × Bindings)) → is_some o ≡ true → is_some (next_row o) ≡ true
-some-next None i = i
-some-next (Some r) i = refl
+next-chosen : (w : World) (row : Row) (rows : List Row) (vs : List Tree) → row_matched w row vs ≡ None → SomeRowMatches w rows vs → SomeRowMatches w (row ∷ rows) vs
+next-chosen w row rows vs e (r, a, q, b, c) = ((suc r.0, r.1), rw (e, a) refl, q, b, c)
 
-first-matched : (w : World) (rows : List Row) (vs : List Tree) → covers w rows vs ≡ true → is_some (first_match w rows vs) ≡ true
-first-matched w [] vs i = i
-first-matched w (r ∷ rows) vs i = go (row_matched w r vs) (subst (λ b. (b || covers w rows vs) ≡ true) (sym (hits-row w r vs)) i) (first-matched w rows vs)
+chosen : (w : World) (rows : List Row) (vs : List Tree) → covers w rows vs ≡ true → SomeRowMatches w rows vs
+chosen w [] vs i = absurd (true≢false (sym i))
+chosen w (r ∷ rows) vs i = go (row_matched w r vs) refl (subst (λ b. (b || covers w rows vs) ≡ true) (sym (hits-row w r vs)) i) (chosen w rows vs)
   where
-    go : (o : Option Bindings) → (is_some o || covers w rows vs) ≡ true → (covers w rows vs ≡ true → is_some (first_match w rows vs) ≡ true) → is_some (or_next o (first_match w rows vs)) ≡ true
-    go (Some xs) j later = refl
-    go None j later = some-next (first_match w rows vs) (later j)
+    go : (o : Option Bindings) → row_matched w r vs ≡ o → (is_some (row_matched w r vs) || covers w rows vs) ≡ true → (covers w rows vs ≡ true → SomeRowMatches w rows vs) → SomeRowMatches w (r ∷ rows) vs
+    go (Some xs) e j later = ((0, xs), rw e refl, r, refl, e)
+    go None e j later = next-chosen w r rows vs e (later (rw e at j))
 
--- where nothing is missing of rows of patterns for some types, each list of values of the types matches a row
-pub nothing-missing : (w : World) → ConstructorsAreKnown w → (rows : List Row) (ts : List SeqType) (vs : List Tree) → AllAsLong rows ts → missing w rows ts ≡ None → AllAreValues w vs ts → is_some (first_match w rows vs) ≡ true
-nothing-missing w known rows ts vs long i typed = first-matched w rows vs (within _ w known rows ts vs i long typed)
+-- where nothing is missing of rows of patterns for some types, of each list of values of the types there is
+-- a first row that matches
+pub nothing-missing : (w : World) → ConstructorsAreKnown w → (rows : List Row) (ts : List SeqType) (vs : List Tree) → AllAsLong rows ts → missing w rows ts ≡ None → AllAreValues w vs ts → SomeRowMatches w rows vs
+nothing-missing w known rows ts vs long i typed = chosen w rows vs (within _ w known rows ts vs i long typed)

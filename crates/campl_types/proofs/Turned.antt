@@ -29,7 +29,7 @@ view-turned s TopBot = refl
 view-turned s (Named at x ts) = refl
 
 -- what the other side does
-pub answered : Deed → Deed
+abbrev pub answered : Deed → Deed
 answered (Puts t x) = Gets t x
 answered (Gets t x) = Puts t x
 answered (Forks x y) = Splits x y
@@ -40,7 +40,6 @@ answered Ends = Ends
 answered IsLinked = IsLinked
 
 named-turned : (e : Option TypeEntry) (s : Side) (ts : List SeqType) → of_named e (side.opposite s) ts ≡ answered (of_named e s ts)
-unfolding answered
 named-turned (Some (ProtocolType d)) Input ts = refl
 named-turned (Some (ProtocolType d)) Output ts = refl
 named-turned (Some (CoprotocolType d)) Input ts = refl
@@ -49,7 +48,6 @@ named-turned (Some (DataType d)) s ts = refl
 named-turned None s ts = refl
 
 pub deed-turned : (w : World) (s : Side) (t : ChanType) → deed w (side.opposite s) t ≡ answered (deed w s t)
-unfolding answered
 deed-turned w Output (Put t x) = refl
 deed-turned w Input (Put t x) = refl
 deed-turned w Output (Get t x) = refl
@@ -66,12 +64,10 @@ deed-turned w Output (Named at x ts) = named-turned (type_named w x) Output (lis
 deed-turned w Input (Named at x ts) = named-turned (type_named w x) Input (list_of ts)
 
 pub deed-of-turned : (w : World) (v : View) → deed_of w (turned v) ≡ answered (deed_of w v)
-unfolding answered
 deed-of-turned w (As s t) = deed-turned w s t
 deed-of-turned w Nothing = refl
 
 one-taken : (w : World) (s r : Side) (d : Deed) (l k : Letter) (u v : View) → taken_at w s d l u → taken_at w r (answered d) k v → ⊥
-unfolding answered
 one-taken w s r (Puts t x) l k u v a b = absurd a
 one-taken w s r (Gets t x) l k u v a b = absurd b
 one-taken w s r (Forks x y) l k u v a b = absurd a

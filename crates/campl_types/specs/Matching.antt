@@ -1,6 +1,7 @@
 -- The matching of a value against a pattern.
-use Rattle.std.specs.Prelude.{ℕ, suc, Bool, true, false, List, [], ◌∷◌, ◌++◌, Option, Some, None, if◌then◌else◌, eqb, option_map}
+use Rattle.std.specs.Prelude.{◌≡◌, ℕ, suc, Bool, true, false, List, [], ◌∷◌, ◌++◌, Option, Some, None, if◌then◌else◌, eqb, option_map, slice_get}
 use Rattle.std.specs.Ordering.{int_eq}
+use Rattle.campl_tree.specs.Plain.Process.{Body, HcaseRows, no_hcase_rows, hcase_row_then}
 use Rattle.campl_value.specs.Tree.{Tree, Trees, Int, Char}
 use Rattle.campl_value.specs.Tree as v
 use Rattle.campl_types.specs.Names.{Name}
@@ -69,3 +70,13 @@ or_next None later = next_row later
 abbrev pub first_match : World → List (List Form) → List Tree → Option (ℕ × Bindings)
 first_match w [] vs = None
 first_match w (r ∷ rows) vs = or_next (row_matched w r vs) (first_match w rows vs)
+
+-- there is a first row that matches: its place, and what it binds
+abbrev pub SomeRowMatches : World → List (List Form) → List Tree → Type 0
+SomeRowMatches w rows vs =
+    (r : ℕ × Bindings) × (first_match w rows vs ≡ Some r) × (row : List Form) × (slice_get rows r.0 ≡ Some row) × (row_matched w row vs ≡ Some r.1)
+
+-- the row of `hcase` whose constructor has this number
+abbrev pub row_picked : World → ℕ → HcaseRows → Option Body
+row_picked w n no_hcase_rows = None
+row_picked w n (hcase_row_then k body rows) = if is_number (number_of w k.name) n then Some body else row_picked w n rows

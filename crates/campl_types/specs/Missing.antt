@@ -24,6 +24,17 @@ use Rattle.campl_types.specs.World.{World, data_named}
 abbrev pub Row : Type 0
 Row = List Form
 
+-- a row has a pattern for each type
+abbrev pub AsLong : Row → List SeqType → Type 0
+AsLong [] [] = Unit {0}
+AsLong (p ∷ ps) (t ∷ ts) = AsLong ps ts
+AsLong [] (t ∷ ts) = ⊥
+AsLong (p ∷ ps) [] = ⊥
+
+abbrev pub AllAsLong : List Row → List SeqType → Type 0
+AllAsLong [] ts = Unit {0}
+AllAsLong (r ∷ rows) ts = AsLong r ts × AllAsLong rows ts
+
 -- Heads
 
 -- what a value begins with, with the types of its parts

@@ -1,5 +1,5 @@
 -- Names, and what is found by a name.
-use Rattle.std.specs.Prelude.{ℕ, Bool, true, false, ◌&&◌, ◌||◌, not, List, [], ◌∷◌, Option, Some, None, if◌then◌else◌, nat_eq}
+use Rattle.std.specs.Prelude.{◌≡◌, ℕ, Bool, true, false, ◌&&◌, ◌||◌, not, List, [], ◌∷◌, Option, Some, None, if◌then◌else◌, nat_eq}
 use Rattle.std.specs.Cmp.Lexicographic.{pointwise}
 
 -- a name is its characters
@@ -34,3 +34,7 @@ without x (y ∷ ys) = if same_name x y then without x ys else y ∷ without x y
 abbrev pub once : List Name → List Name
 once [] = []
 once (x ∷ xs) = x ∷ without x (once xs)
+
+-- each of these names is among those
+abbrev pub Within : List Name → List Name → Type 0
+Within ks bs = (x : Name) → is_among x ks ≡ true → is_among x bs ≡ true

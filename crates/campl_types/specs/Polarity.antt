@@ -10,7 +10,7 @@
 --     a coprotocol        hcase         hput          the constructor's type
 --     TopBot              close, halt   close, halt   nothing
 --     Neg(X)              identity      identity      nothing
-use Rattle.std.specs.Prelude.{◌≡◌, ◌⊎◌, List, Option, Some, None, if◌then◌else◌, map}
+use Rattle.std.specs.Prelude.{◌≡◌, ℕ, ◌⊎◌, List, [], ◌∷◌, Option, Some, None, if◌then◌else◌, map, slice_get}
 use Rattle.campl_tree.specs.declared.place.Ident.{Ident}
 use Rattle.campl_tree.specs.declared.service.Side.{Side}
 use Rattle.campl_tree.specs.declared.service.Side.TheVariants.{Input, Output}
@@ -22,7 +22,7 @@ use Rattle.campl_types.specs.declared.act.Act.{Act}
 use Rattle.campl_types.specs.declared.act.Act.TheVariants as act
 use Rattle.campl_types.specs.Names.{Name, same_name}
 use Rattle.campl_types.specs.Substitution.{Filling, filling, filled, all_filled, list_of, types_of}
-use Rattle.campl_types.specs.SameType.{nowhere, IsSameChan}
+use Rattle.campl_types.specs.SameType.{nowhere, bare, bare_chan, IsSameChan}
 use Rattle.campl_types.specs.World.{World, TypeEntry, DataType, ProtocolType, CoprotocolType, type_named, names_of, ConstructorEntry, OfData, OfProtocol, OfCoprotocol, constructor_named}
 
 -- The type after a constructor
@@ -119,6 +119,34 @@ named_act None side = act.Link
 -- the table's entry
 abbrev pub allowed : World → ChanType → Side → Act
 allowed w t side = act_of (deed w side t)
+
+-- a constructor of a protocol is known by its name, with its number
+abbrev pub ProtocolsAreKnown : World → Type 0
+ProtocolsAreKnown w =
+    (x : Name) (d : ProtocolDecl) (n : ℕ) (k : ProtocolConstructor) → type_named w x ≡ Some (ProtocolType d) → slice_get d.constructors n ≡ Some k
+    → constructor_named w k.name.name ≡ Some (OfProtocol d n k)
+
+-- so is one of a coprotocol
+abbrev pub CoprotocolsAreKnown : World → Type 0
+CoprotocolsAreKnown w =
+    (x : Name) (d : CoprotocolDecl) (n : ℕ) (k : CoprotocolConstructor) → type_named w x ≡ Some (CoprotocolType d) → slice_get d.constructors n ≡ Some k
+    → constructor_named w k.name.name ≡ Some (OfCoprotocol d n k)
+
+-- Without places
+
+abbrev pub bare_choices : Choices → Choices
+bare_choices [] = []
+bare_choices (c ∷ cs) = (c.0, bare_chan c.1) ∷ bare_choices cs
+
+abbrev pub bare_deed : Deed → Deed
+bare_deed (Puts t x) = Puts (bare t) (bare_chan x)
+bare_deed (Gets t x) = Gets (bare t) (bare_chan x)
+bare_deed (Forks x y) = Forks (bare_chan x) (bare_chan y)
+bare_deed (Splits x y) = Splits (bare_chan x) (bare_chan y)
+bare_deed (Picks cs) = Picks (bare_choices cs)
+bare_deed (Offers cs) = Offers (bare_choices cs)
+bare_deed Ends = Ends
+bare_deed IsLinked = IsLinked
 
 -- Partners
 

@@ -55,7 +55,7 @@ PartsTellAll Found parameters types = IsTrue (all_among parameters (variables_of
 PartsTellAll Checked parameters types = Unit {0}
 
 -- how a part is judged, where these parameters are known
-abbrev way_of : List Name → SeqType → Way
+abbrev pub way_of : List Name → SeqType → Way
 way_of known t = if all_among (variables_of t) known then Checked else Found
 
 -- the call of what has these parameters, types of parts and result; `parts` judges the parts
@@ -146,7 +146,7 @@ RowIsTyped w f r =
     (xs : Vars) × (all_fit w r.patterns f.parameters ≡ Some xs) × IsTrue (are_distinct (bound_in_all r.patterns))
     × HasType Checked w xs r.value f.result
 
-abbrev RowsAreTyped : World → FunctionDecl → List FunctionRow → Type 0
+abbrev pub RowsAreTyped : World → FunctionDecl → List FunctionRow → Type 0
 RowsAreTyped w f [] = Unit {0}
 RowsAreTyped w f (r ∷ rows) = RowIsTyped w f r × RowsAreTyped w f rows
 

@@ -15,5 +15,6 @@ mod laws;
 pub use act::Act;
 pub use fault::NameFault;
 pub use laws::{
-    law_bodies_name_what_they_hold, law_forks_divide_by_names, law_forks_divide_in_one_way,
+    law_bodies_name_what_they_hold, law_declarations_are_known, law_forks_divide_by_names,
+    law_forks_divide_in_one_way, law_some_row_matches, law_the_table_sees_no_places,
 };

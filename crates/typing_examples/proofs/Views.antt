@@ -1,5 +1,5 @@
 -- Each entry of the polarity table, views, letters and values.
-use Rattle.std.proofs.Common.{◌≡◌, refl, inl, inr, pos, [], ◌∷◌, Some, None, true, codes}
+use Rattle.std.proofs.Common.{◌≡◌, refl, ap, inl, inr, pos, [], ◌∷◌, Some, None, option_map, length, arith, true, codes}
 use Rattle.campl_tree.specs.declared.service.Side.TheVariants.{Input, Output}
 use Rattle.campl_tree.specs.Plain.SeqType as s
 use Rattle.campl_tree.specs.Plain.ChanType.{ChanType, Put, Get, Tensor, Par, TopBot, Neg, Named}
@@ -158,6 +158,13 @@ pair-value = ((tt, tt), tt)
 -- Just(7) is a Maybe(Int), and no Maybe(Char)
 just-seven : IsValue w (v.Built 1 (v.more (v.Int (pos 7)) v.none)) (s.Named (place 9 1) (codes "Maybe") (s.type_then s.Int s.no_types))
 just-seven = (_, _, refl, refl, refl, (tt, tt))
+
+-- nor is it a value of Maybe without an argument, where a function could take the 7 for whatever it likes
+no-arguments : IsValue w (v.Built 1 (v.more (v.Int (pos 7)) v.none)) (s.Named (place 9 1) (codes "Maybe") s.no_types) → ⊥
+no-arguments (e, k, i, j, long, h) =
+    let one : Some 1 ≡ Some (length e.parameters) = ap (option_map (λ (c : d.DataDecl). length c.parameters)) i in
+    let n : 1 ≡ length e.parameters = cc one in
+    omega (arith, n, long)
 
 -- of a type variable is any value
 any-value : IsValue w (v.Built 5 v.none) (s.Variable (place 9 1) (codes "a"))
