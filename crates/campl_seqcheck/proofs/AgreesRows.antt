@@ -1,5 +1,5 @@
 -- Rows whose judging has no fault miss no value.
-use Rattle.std.proofs.Common.{◌≡◌, refl, ap, subst, ℕ, List, [], ◌∷◌, Option, Some, None, map, length, arith}
+use Rattle.std.proofs.Common.{◌≡◌, refl, ap, subst, List, [], ◌∷◌, Option, Some, None, length, arith}
 use Rattle.campl_tree.specs.declared.place.Place.{Place}
 use Rattle.campl_tree.specs.Plain.Decl.{Program, FunctionDecl, FunctionRow}
 use Rattle.campl_tree.specs.Plain.Expr as e
@@ -20,7 +20,7 @@ use Rattle.campl_seqcheck.specs.Judged.{Is, Fine, fine}
 use Rattle.campl_seqcheck.specs.Fitting.{counted, number_of, fit_all}
 use Rattle.campl_seqcheck.specs.RowPatterns.{MatchRow, exhaustive, match_forms, row_fits, judge_row, judge_each_row, judge_match}
 use Rattle.campl_seqcheck.specs.Judging.{case_rows}
-use Rattle.campl_seqcheck.specs.Functions.{function_match, function_matches}
+use Rattle.campl_seqcheck.specs.Functions.{function_matches}
 use Rattle.campl_seqcheck.proofs.AgreesJudged.{in-turn, counts}
 
 pub exhaustive-is : (at : Place) (w : World) (rows : List Row) (ts : List SeqType) (f : Fine) → exhaustive at w rows ts ≡ Is f → missing w rows ts ≡ None

@@ -23,7 +23,7 @@ use Rattle.campl_seqcheck.specs.declared.fault.SeqFault.{SeqFault}
 use Rattle.campl_seqcheck.specs.Judged.{Judged, Is, Fails, Fine, fine, and_then}
 use Rattle.campl_seqcheck.specs.Fitting.{counted, fit_all}
 use Rattle.campl_seqcheck.specs.RowPatterns.{MatchRow, bare_row, row_fits, judge_row, judge_each_row, exhaustive, match_forms, judge_match}
-use Rattle.campl_seqcheck.specs.Judging.{judge, checked, case_rows}
+use Rattle.campl_seqcheck.specs.Judging.{checked, case_rows}
 use Rattle.campl_seqcheck.specs.Functions.{function_match, function_matches}
 use Rattle.campl_seqcheck.specs.Steps.{judged, fitted_all, fitted_row}
 use Rattle.campl_seqcheck.proofs.Answered.{drop-at}

@@ -1,7 +1,7 @@
-use Rattle.std.proofs.Common.{◌∙◌, sym, map}
+use Rattle.std.proofs.Common.{map}
 use Rattle.campl_tree.specs.View.{view_seq, view_decl}
 use Rattle.campl_seqcheck.proofs.Answered.{loop-went, loop-stopped}
-use Rattle.campl_seqcheck.proofs.RowsJudged.{row-at, row-end}
+use Rattle.campl_seqcheck.proofs.RowsJudged.{row-at}
 use Rattle.campl_seqcheck.proofs.rows.fit_rows.Goals as goal
 
 pub returns-in_err-fit_row : goal.returns-in_err-fit_row
