@@ -2,6 +2,7 @@
 ghost use Rattle.std.specs.Prelude.{◌≡◌};
 ghost use Rattle.campl_cli.specs.Faults.{code_of};
 
+use campl_shown::Shown;
 use campl_tree::{Name, Place};
 use thiserror::Error;
 
@@ -15,7 +16,7 @@ pub struct SourceFault {
 }
 
 /// What a fault tells beside its place.
-#[derive(Debug, Drop, Error)]
+#[derive(Debug, Error)]
 pub enum Detail {
     #[error("")]
     Nothing,
@@ -25,6 +26,30 @@ pub enum Detail {
     /// A number that was found where another is wanted.
     #[error(": found {found}, wanted {wanted}")]
     Counted { found: usize, wanted: usize },
+    /// A type that is found where another is wanted.
+    #[error(": found {0}, wanted {1}")]
+    Differing(Shown, Shown),
+    /// The patterns that no row covers.
+    #[error(": missing {0}")]
+    Missing(Shown),
+}
+
+impl Drop for Detail {
+    fn drop(self) {
+        match self {
+            Detail::Nothing => {}
+            Detail::Named(name) => drop(name),
+            Detail::Counted {
+                found: _,
+                wanted: _,
+            } => {}
+            Detail::Differing(found, wanted) => {
+                drop(found);
+                drop(wanted);
+            }
+            Detail::Missing(patterns) => drop(patterns),
+        }
+    }
 }
 
 /// What is wrong of a source. `docs/LANGUAGE.md` lists the numbers and the places.
@@ -62,6 +87,16 @@ pub enum FaultKind {
     RunNotService,
     /// A named type with another number of arguments than its declaration has parameters.
     TypeArguments,
+    /// An expression or a pattern of another type than is wanted.
+    TypeDiffers,
+    /// An expression that doesn't tell its type.
+    NeedsType,
+    /// Rows that don't cover all values.
+    NotExhaustive,
+    /// Another number of arguments than is declared, or of patterns in a row.
+    ArgumentCount,
+    /// A row of patterns that binds a name twice.
+    NameTwiceInPattern,
 }
 
 impl FaultKind {
@@ -86,6 +121,11 @@ impl FaultKind {
             FaultKind::NoRun => "E23 NoRun",
             FaultKind::RunNotService => "E24 RunNotService",
             FaultKind::TypeArguments => "E25 TypeArguments",
+            FaultKind::TypeDiffers => "E30 TypeDiffers",
+            FaultKind::NeedsType => "E31 NeedsType",
+            FaultKind::NotExhaustive => "E32 NotExhaustive",
+            FaultKind::ArgumentCount => "E33 ArgumentCount",
+            FaultKind::NameTwiceInPattern => "E34 NameTwiceInPattern",
         }
     }
 }

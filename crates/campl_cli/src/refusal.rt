@@ -20,10 +20,10 @@ pub enum Refusal {
     /// The source isn't UTF-8; its longest front that is has `at` bytes.
     #[error("source isn't UTF-8 at byte {at}")]
     NotUtf8 { at: u64 },
-    /// The source has no tokens, no layout or no tree, or its names aren't well declared.
+    /// The source has no tokens, no layout or no tree, its names aren't well declared, or its functions aren't typed.
     #[error("{0}")]
     Source(SourceFault),
-    /// The source has a tree, and isn't of the form that runs so far.
+    /// The source has a tree whose names and functions have no fault, and isn't of the form that runs so far.
     #[error("E60 NotBuilt at 1:1")]
     NotBuilt,
     /// The source can't be read.

@@ -1,0 +1,69 @@
+//! Whether the functions of a program are typed.
+ghost use Rattle.std.specs.Prelude.{◌≡◌, MatchResult, map};
+ghost use Rattle.campl_tree.specs.View.{view_decl, view_program};
+ghost use Rattle.campl_types.specs.WellDeclared.{IsWellDeclared};
+ghost use Rattle.campl_types.specs.World.{world_of};
+ghost use Rattle.campl_types.specs.Sequential.{FunctionsAreTyped};
+ghost use Rattle.campl_tree.specs.Plain.Decl.{Program as Seen};
+ghost use Rattle.campl_cli.specs.Source.{IsJudged, IsRefusedForFunctions, IsRefusedJudged, refusal_of_typing};
+
+use crate::fault::{Detail, FaultKind};
+use crate::names::{judge_names, refusal};
+use crate::refusal::Refusal;
+use campl_names::World;
+use campl_seqcheck::{SeqFault, check_functions};
+use campl_tree::Program;
+use std::alloc::Global;
+
+/// Judges a program: its names, and then its functions.
+pub fn judge(alloc: Global, program: Program) -> Result<(), Refusal>
+    ensures { MatchResult result (λ _. IsJudged (view_program program)) (IsRefusedJudged (view_program program)) }
+{
+    match judge_names(alloc, program) {
+        Ok(world) => judge_functions(alloc, &world),
+        Err(refusal) => Err(refusal),
+    }
+}
+
+/// Judges the functions of the world of a well declared program.
+pub fn judge_functions(alloc: Global, world: &World) -> Result<(), Refusal>
+    ensures { (program : Seen) → IsWellDeclared program → map view_decl world.now ≡ world_of program
+        → MatchResult result (λ _. FunctionsAreTyped (world_of program) program) (IsRefusedForFunctions program) }
+{
+    match check_functions(alloc, world, world.declarations()) {
+        Ok(()) => Ok(()),
+        Err(fault) => Err(refusal_of(fault)),
+    }
+}
+
+// The refusal for a fault of functions.
+fn refusal_of(fault: SeqFault) -> Refusal
+    ensures { result ≡ refusal_of_typing fault }
+{
+    match fault {
+        SeqFault::TypeDiffers {
+            place,
+            found,
+            wanted,
+        } => {
+            let detail = Detail::Differing(found, wanted);
+            refusal(FaultKind::TypeDiffers, place, detail)
+        }
+        SeqFault::NeedsType { place } => refusal(FaultKind::NeedsType, place, Detail::Nothing),
+        SeqFault::NotExhaustive { place, missing } => {
+            refusal(FaultKind::NotExhaustive, place, Detail::Missing(missing))
+        }
+        SeqFault::ArgumentCount {
+            place,
+            found,
+            wanted,
+        } => {
+            let detail = Detail::Counted { found, wanted };
+            refusal(FaultKind::ArgumentCount, place, detail)
+        }
+        SeqFault::NameTwiceInPattern { place, name } => {
+            refusal(FaultKind::NameTwiceInPattern, place, Detail::Named(name))
+        }
+        SeqFault::OutOfMemory => Refusal::OutOfMemory,
+    }
+}
