@@ -8,3 +8,4 @@ pub mod Shapes
 pub mod Limits
 pub mod OneAnswer
 pub mod Judging
+pub mod OneFault

@@ -7,8 +7,8 @@ ghost use Rattle.campl_types.specs.Sequential.{FunctionsAreTyped};
 ghost use Rattle.campl_tree.specs.Plain.Decl.{Program as Seen};
 ghost use Rattle.campl_cli.specs.Source.{IsJudged, IsRefusedForFunctions, IsRefusedJudged, refusal_of_typing};
 
-use crate::fault::{Detail, FaultKind};
-use crate::names::{judge_names, refusal};
+use crate::fault::FaultKind;
+use crate::names::judge_names;
 use crate::refusal::Refusal;
 use campl_names::World;
 use campl_seqcheck::{SeqFault, check_functions};
@@ -45,24 +45,18 @@ fn refusal_of(fault: SeqFault) -> Refusal
             place,
             found,
             wanted,
-        } => {
-            let detail = Detail::Differing(found, wanted);
-            refusal(FaultKind::TypeDiffers, place, detail)
-        }
-        SeqFault::NeedsType { place } => refusal(FaultKind::NeedsType, place, Detail::Nothing),
+        } => Refusal::of_types(FaultKind::TypeDiffers, place, found, wanted),
+        SeqFault::NeedsType { place } => Refusal::at(FaultKind::NeedsType, place),
         SeqFault::NotExhaustive { place, missing } => {
-            refusal(FaultKind::NotExhaustive, place, Detail::Missing(missing))
+            Refusal::of_patterns(FaultKind::NotExhaustive, place, missing)
         }
         SeqFault::ArgumentCount {
             place,
             found,
             wanted,
-        } => {
-            let detail = Detail::Counted { found, wanted };
-            refusal(FaultKind::ArgumentCount, place, detail)
-        }
+        } => Refusal::of_numbers(FaultKind::ArgumentCount, place, found, wanted),
         SeqFault::NameTwiceInPattern { place, name } => {
-            refusal(FaultKind::NameTwiceInPattern, place, Detail::Named(name))
+            Refusal::of_name(FaultKind::NameTwiceInPattern, place, name)
         }
         SeqFault::OutOfMemory => Refusal::OutOfMemory,
     }

@@ -1,44 +1,56 @@
 //! Patterns.
-ghost use Rattle.std.specs.Prelude.{◌≡◌, ◌≤◌, OnOk};
+ghost use Rattle.std.specs.Prelude.{◌≡◌};
 ghost use Rattle.campl_gram.specs.Reading.{next_in, adds};
-ghost use Rattle.campl_grammar.specs.Word.{terminals};
+ghost use Rattle.campl_grammar.specs.Terminal.{terminals};
 ghost use Rattle.campl_grammar.specs.Tables.{starts};
 ghost use Rattle.campl_grammar.specs.Rules.{read, piece, some_patterns as some_patterns_piece};
-ghost use Rattle.campl_grammar.specs.Names.{patterns as patterns_name, pattern as pattern_name, patom as patom_name, constructor_pattern as constructor_pattern_name, list_pattern as list_pattern_name, simple_pattern as simple_pattern_name, grouped_pattern as grouped_pattern_name};
+ghost use Rattle.campl_grammar.specs.Names as name;
 ghost use Rattle.campl_parse_terms.specs.Patterns.{literal_pattern as literal_pattern_piece};
 ghost use Rattle.campl_parse_terms.specs.Reads.{Reads};
 
 use crate::cursor::Cursor;
 use crate::error::ParseError;
 use crate::{made, read};
-use campl_grammar::Kind;
+use campl_lex::TokenKind;
 use campl_tree::Pattern;
 use sqlite_items::{Boxed, Items};
 use std::alloc::Global;
 
 /// Whether a pattern of one word may begin with the next word, or a negative number.
 fn starts_simple(cursor: &Cursor<'_>) -> bool
-    ensures { result ≡ next_in terminals (starts simple_pattern_name) cursor.now }
+    ensures { result ≡ next_in terminals (starts name.simple_pattern) cursor.now }
 {
-    cursor.at(Kind::Wildcard)
-        || cursor.at(Kind::Lower)
-        || cursor.at(Kind::Number)
-        || cursor.at(Kind::Minus)
-        || cursor.at(Kind::Character)
-        || cursor.at(Kind::Text)
-        || cursor.at(Kind::True)
-        || cursor.at(Kind::False)
+    let kinds = [
+        TokenKind::Wildcard,
+        TokenKind::Lower,
+        TokenKind::Number,
+        TokenKind::Minus,
+        TokenKind::Character,
+        TokenKind::Text,
+        TokenKind::True,
+        TokenKind::False,
+    ];
+    cursor.at_any(&kinds)
 }
 
 /// Whether a pattern may begin with the next word.
-#[tactic(auto, using(crate::proofs::Starts::starts_patterns))]
 fn starts_pattern(cursor: &Cursor<'_>) -> bool
-    ensures { result ≡ next_in terminals (starts patterns_name) cursor.now }
+    ensures { result ≡ next_in terminals (starts name.patterns) cursor.now }
 {
-    starts_simple(cursor)
-        || cursor.at(Kind::Upper)
-        || cursor.at(Kind::LeftBracket)
-        || cursor.at(Kind::LeftParen)
+    let kinds = [
+        TokenKind::Wildcard,
+        TokenKind::Lower,
+        TokenKind::Number,
+        TokenKind::Minus,
+        TokenKind::Character,
+        TokenKind::Text,
+        TokenKind::True,
+        TokenKind::False,
+        TokenKind::Upper,
+        TokenKind::LeftBracket,
+        TokenKind::LeftParen,
+    ];
+    cursor.at_any(&kinds)
 }
 
 /// A number, a negative number, a character, a text or a truth value.
@@ -49,42 +61,35 @@ fn literal_pattern(
 ) -> Result<Pattern, ParseError>
     ensures { Reads (piece literal_pattern_piece depth cursor.old) result cursor.new }
 {
-    if cursor.at(Kind::Number) {
-        let word = read!(cursor.expect(Kind::Number, depth));
+    if let Some(word) = read!(cursor.take(TokenKind::Number, depth)) {
         return Ok(Pattern::Number(word.place(), word.number()));
     }
-    if cursor.at(Kind::Minus) {
-        let place = read!(cursor.expect(Kind::Minus, depth)).place();
-        let word = read!(cursor.expect(Kind::Number, depth));
-        return Ok(Pattern::Negative(place, word.number()));
+    if let Some(minus) = read!(cursor.take(TokenKind::Minus, depth)) {
+        let word = read!(cursor.expect(TokenKind::Number, depth));
+        return Ok(Pattern::Negative(minus.place(), word.number()));
     }
-    if cursor.at(Kind::Character) {
-        let word = read!(cursor.expect(Kind::Character, depth));
+    if let Some(word) = read!(cursor.take(TokenKind::Character, depth)) {
         return Ok(Pattern::Character(word.place(), word.character()));
     }
-    if cursor.at(Kind::Text) {
-        let word = read!(cursor.expect(Kind::Text, depth));
+    if let Some(word) = read!(cursor.take(TokenKind::Text, depth)) {
         return Ok(Pattern::Text(word.place(), made!(word.text(alloc))));
     }
-    if cursor.at(Kind::True) {
-        let word = read!(cursor.expect(Kind::True, depth));
+    if let Some(word) = read!(cursor.take(TokenKind::True, depth)) {
         return Ok(Pattern::True(word.place()));
     }
-    let word = read!(cursor.expect(Kind::False, depth));
+    let word = read!(cursor.expect(TokenKind::False, depth));
     Ok(Pattern::False(word.place()))
 }
 
 /// A pattern without parts.
 #[tactic(auto, using(campl_grammar::proofs::ByRule::reads_simple_pattern))]
 fn simple_pattern(alloc: Global, cursor: &mut Cursor<'_>, depth: u32) -> Result<Pattern, ParseError>
-    ensures { Reads (read simple_pattern_name depth cursor.old) result cursor.new }
+    ensures { Reads (read name.simple_pattern depth cursor.old) result cursor.new }
 {
-    if cursor.at(Kind::Wildcard) {
-        let word = read!(cursor.expect(Kind::Wildcard, depth));
+    if let Some(word) = read!(cursor.take(TokenKind::Wildcard, depth)) {
         return Ok(Pattern::Wildcard(word.place()));
     }
-    if cursor.at(Kind::Lower) {
-        let word = read!(cursor.expect(Kind::Lower, depth));
+    if let Some(word) = read!(cursor.take(TokenKind::Lower, depth)) {
         return Ok(Pattern::Variable(word.place(), made!(word.name(alloc))));
     }
     literal_pattern(alloc, cursor, depth)
@@ -94,15 +99,15 @@ fn simple_pattern(alloc: Global, cursor: &mut Cursor<'_>, depth: u32) -> Result<
 #[cycle(pattern)]
 #[tactic(auto, using(campl_grammar::proofs::ByRule::reads_patom))]
 fn patom(alloc: Global, cursor: &mut Cursor<'_>, depth: u32) -> Result<Pattern, ParseError>
-    ensures { Reads (read patom_name depth cursor.old) result cursor.new }
+    ensures { Reads (read name.patom depth cursor.old) result cursor.new }
 {
     if starts_simple(cursor) {
         return simple_pattern(alloc, cursor, depth);
     }
-    if cursor.at(Kind::Upper) {
+    if cursor.at(TokenKind::Upper) {
         return constructor_pattern(alloc, cursor, depth);
     }
-    if cursor.at(Kind::LeftBracket) {
+    if cursor.at(TokenKind::LeftBracket) {
         return list_pattern(alloc, cursor, depth);
     }
     grouped_pattern(alloc, cursor, depth)
@@ -116,17 +121,16 @@ fn constructor_pattern(
     cursor: &mut Cursor<'_>,
     depth: u32,
 ) -> Result<Pattern, ParseError>
-    ensures { Reads (read constructor_pattern_name depth cursor.old) result cursor.new }
+    ensures { Reads (read name.constructor_pattern depth cursor.old) result cursor.new }
 {
-    let word = read!(cursor.expect(Kind::Upper, depth));
+    let word = read!(cursor.expect(TokenKind::Upper, depth));
     let name = made!(word.name(alloc));
     let parts = Items::new(alloc);
-    if !cursor.at(Kind::LeftParen) {
+    if read!(cursor.take(TokenKind::LeftParen, depth)).is_none() {
         return Ok(Pattern::Constructor(word.place(), name, parts));
     }
-    read!(cursor.expect(Kind::LeftParen, depth));
     let parts = read!(patterns(alloc, cursor, depth + 1, parts));
-    read!(cursor.expect(Kind::RightParen, depth + 1));
+    read!(cursor.expect(TokenKind::RightParen, depth + 1));
     Ok(Pattern::Constructor(word.place(), name, parts))
 }
 
@@ -134,12 +138,12 @@ fn constructor_pattern(
 #[cycle(pattern)]
 #[tactic(auto, using(campl_grammar::proofs::ByRule::reads_list_pattern))]
 fn list_pattern(alloc: Global, cursor: &mut Cursor<'_>, depth: u32) -> Result<Pattern, ParseError>
-    ensures { Reads (read list_pattern_name depth cursor.old) result cursor.new }
+    ensures { Reads (read name.list_pattern depth cursor.old) result cursor.new }
 {
     let place = cursor.place();
-    read!(cursor.expect(Kind::LeftBracket, depth));
+    read!(cursor.expect(TokenKind::LeftBracket, depth));
     let parts = read!(some_patterns(alloc, cursor, depth + 1));
-    read!(cursor.expect(Kind::RightBracket, depth + 1));
+    read!(cursor.expect(TokenKind::RightBracket, depth + 1));
     Ok(Pattern::List(place, parts))
 }
 
@@ -151,18 +155,17 @@ fn grouped_pattern(
     cursor: &mut Cursor<'_>,
     depth: u32,
 ) -> Result<Pattern, ParseError>
-    ensures { Reads (read grouped_pattern_name depth cursor.old) result cursor.new }
+    ensures { Reads (read name.grouped_pattern depth cursor.old) result cursor.new }
 {
     let place = cursor.place();
-    read!(cursor.expect(Kind::LeftParen, depth));
+    read!(cursor.expect(TokenKind::LeftParen, depth));
     let left = read!(pattern(alloc, cursor, depth + 1));
-    if !cursor.at(Kind::Comma) {
-        read!(cursor.expect(Kind::RightParen, depth + 1));
+    if read!(cursor.take(TokenKind::Comma, depth + 1)).is_none() {
+        read!(cursor.expect(TokenKind::RightParen, depth + 1));
         return Ok(left);
     }
-    read!(cursor.expect(Kind::Comma, depth + 1));
     let right = read!(pattern(alloc, cursor, depth + 2));
-    read!(cursor.expect(Kind::RightParen, depth + 1));
+    read!(cursor.expect(TokenKind::RightParen, depth + 1));
     let left = made!(Boxed::new(alloc, left));
     Ok(Pattern::Pair(place, left, made!(Boxed::new(alloc, right))))
 }
@@ -171,14 +174,13 @@ fn grouped_pattern(
 #[cycle(pattern)]
 #[tactic(auto, using(campl_grammar::proofs::ByRule::reads_pattern))]
 pub fn pattern(alloc: Global, cursor: &mut Cursor<'_>, depth: u32) -> Result<Pattern, ParseError>
-    ensures { Reads (read pattern_name depth cursor.old) result cursor.new }
+    ensures { Reads (read name.pattern depth cursor.old) result cursor.new }
 {
     let place = cursor.place();
     let left = read!(patom(alloc, cursor, depth));
-    if !cursor.at(Kind::Colon) {
+    if read!(cursor.take(TokenKind::Colon, depth)).is_none() {
         return Ok(left);
     }
-    read!(cursor.expect(Kind::Colon, depth));
     let right = read!(pattern(alloc, cursor, depth + 1));
     let left = made!(Boxed::new(alloc, left));
     Ok(Pattern::Cons(place, left, made!(Boxed::new(alloc, right))))
@@ -193,14 +195,13 @@ fn patterns(
     depth: u32,
     mut found: Items<Pattern>,
 ) -> Result<Items<Pattern>, ParseError>
-    ensures { Reads (adds found (read patterns_name depth cursor.old)) result cursor.new }
+    ensures { Reads (adds found (read name.patterns depth cursor.old)) result cursor.new }
 {
     made!(found.push(read!(pattern(alloc, cursor, depth))));
-    if !cursor.at(Kind::Comma) {
-        return Ok(found);
+    match read!(cursor.take(TokenKind::Comma, depth)) {
+        Some(_) => patterns(alloc, cursor, depth + 1, found),
+        None => Ok(found),
     }
-    read!(cursor.expect(Kind::Comma, depth));
-    patterns(alloc, cursor, depth + 1, found)
 }
 
 /// Patterns with commas between them, or none.

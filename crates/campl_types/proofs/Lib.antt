@@ -9,12 +9,16 @@ pub mod Lowers
 pub mod Bare
 pub mod Deeds
 pub mod EachOnce
+pub mod ChoiceNumbers
 pub mod Turned
+pub mod Compose
+pub mod SameValue
 pub mod Instances
 pub mod Missing
 pub mod TypedRows
 pub mod MissingUnfolds
 mod FreeCommands
 pub mod FreeParts
+pub mod Times
 pub mod FreeNames
 pub mod Forked
