@@ -1,7 +1,7 @@
 use Rattle.std.proofs.Common.{arith, refl, drop, ◌+◌}
 use Rattle.std.proofs.lemmas.List.{take_all, length-drop}
 use Rattle.campl_value.proofs.Escapes.{all_shown, more_shown, stops_there}
-use Rattle.campl_value.proofs.shown.push_bytes.Goals as goal
+use Rattle.campl_value.proofs.shown.push_pieces.Goals as goal
 
 pub returns-then-plain-rest : goal.returns-then-plain-rest
 returns-then-plain-rest c =
