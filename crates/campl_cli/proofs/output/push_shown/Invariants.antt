@@ -1,6 +1,6 @@
 use Rattle.std.proofs.Common.{◌≡◌, ◌++◌, drop}
 use Rattle.std.specs.Prelude.{string_bytes}
-use Rattle.campl_meaning.specs.Output.{shown_text}
+use Rattle.campl_first_path.specs.Output.{shown_text}
 use Rattle.campl_cli.proofs.output.push_shown.Given as goal
 
 -- what is shown so far and what is left make the whole

@@ -1,7 +1,7 @@
 -- The parts of the line, one after another.
 use Rattle.std.proofs.Common.{◌∙◌, ap, ◌++◌, ◌∷◌, []}
 use Rattle.std.specs.Prelude.{string_bytes, chars}
-use Rattle.campl_meaning.specs.Output.{shown_text, end_of_line}
+use Rattle.campl_first_path.specs.Output.{shown_text, end_of_line}
 use Rattle.campl_cli.proofs.OutputLines.{three_parts}
 use Rattle.campl_cli.proofs.output.push_taken.Goals as goal
 

@@ -1,0 +1,91 @@
+-- What views take: lists one after the other, and that of a view and the same from the other side only one takes.
+use Rattle.std.proofs.Common.{◌≡◌, List, [], ◌∷◌, ◌++◌, ◌⊎◌, inl, inr, refl, sym, ap, subst, ◌∙◌, Bool, true, false, Option, Some, None}
+use Rattle.campl_tree.specs.declared.service.Side.{Side}
+use Rattle.campl_tree.specs.declared.service.Side.TheVariants.{Input, Output}
+use Rattle.campl_tree.specs.Side.{opposite}
+use Rattle.campl_tree.specs.Plain.SeqType.{SeqType}
+use Rattle.campl_tree.specs.Plain.ChanType.{ChanType, Put, Get, Tensor, Par, TopBot, Neg, Named}
+use Rattle.campl_types.specs.Substitution.{list_of}
+use Rattle.campl_types.specs.SameType.{bare_chan}
+use Rattle.campl_types.specs.World.{World, TypeEntry, DataType, ProtocolType, CoprotocolType, type_named}
+use Rattle.campl_types.specs.Polarity.{Deed, Puts, Gets, Forks, Splits, Picks, Offers, Ends, IsLinked, deed, of_named}
+use Rattle.campl_types.specs.Views as plain
+use Rattle.campl_types.specs.Views.{View, As, Nothing, turned, deed_of, side_of}
+use Rattle.campl_types.specs.Linear.{AreJoined}
+use Rattle.campl_types.proofs.Turned.{turned-twice, view-turned}
+use Rattle.campl_meaning.specs.States.{Message}
+use Rattle.campl_meaning.specs.Views.{view_of, taken_at, TakesAll}
+
+-- The other side
+
+-- what the other side does
+abbrev answered : Deed → Deed
+answered (Puts t x) = Gets t x
+answered (Gets t x) = Puts t x
+answered (Forks x y) = Splits x y
+answered (Splits x y) = Forks x y
+answered (Picks cs) = Offers cs
+answered (Offers cs) = Picks cs
+answered Ends = Ends
+answered IsLinked = IsLinked
+
+named-answered : (e : Option TypeEntry) (s : Side) (ts : List SeqType) → of_named e (opposite s) ts ≡ answered (of_named e s ts)
+named-answered (Some (ProtocolType d)) Input ts = refl
+named-answered (Some (ProtocolType d)) Output ts = refl
+named-answered (Some (CoprotocolType d)) Input ts = refl
+named-answered (Some (CoprotocolType d)) Output ts = refl
+named-answered (Some (DataType d)) s ts = refl
+named-answered None s ts = refl
+
+deed-answered : (w : World) (s : Side) (t : ChanType) → deed w (opposite s) t ≡ answered (deed w s t)
+deed-answered w Output (Put t x) = refl
+deed-answered w Input (Put t x) = refl
+deed-answered w Output (Get t x) = refl
+deed-answered w Input (Get t x) = refl
+deed-answered w Output (Tensor x y) = refl
+deed-answered w Input (Tensor x y) = refl
+deed-answered w Output (Par x y) = refl
+deed-answered w Input (Par x y) = refl
+deed-answered w Output TopBot = refl
+deed-answered w Input TopBot = refl
+deed-answered w Output (Neg x) = refl
+deed-answered w Input (Neg x) = refl
+deed-answered w Output (Named at x ts) = named-answered (type_named w x) Output (list_of ts)
+deed-answered w Input (Named at x ts) = named-answered (type_named w x) Input (list_of ts)
+
+deed-of-turned : (w : World) (v : View) → deed_of w (turned v) ≡ answered (deed_of w v)
+deed-of-turned w (As s t) = deed-answered w s t
+deed-of-turned w Nothing = refl
+
+one-taken : (w : World) (s r : Side) (d : Deed) (l k : Message) (u v : View) → taken_at w s d l u → taken_at w r (answered d) k v → ⊥
+one-taken w s r (Puts t x) l k u v a b = absurd a
+one-taken w s r (Gets t x) l k u v a b = absurd b
+one-taken w s r (Forks x y) l k u v a b = absurd a
+one-taken w s r (Splits x y) l k u v a b = absurd b
+one-taken w s r (Picks cs) l k u v a b = absurd a
+one-taken w s r (Offers cs) l k u v a b = absurd b
+one-taken w s r Ends l k u v a b = absurd a
+one-taken w s r IsLinked l k u v a b = absurd a
+
+-- of a view and the same from the other side only one takes messages
+pub one-side-takes : (w : World) (v : View) (ms ns : List Message) (m n : View) → TakesAll w v ms m → TakesAll w (turned v) ns n → (ms ≡ []) ⊎ (ns ≡ [])
+one-side-takes w v [] ns m n a b = inl refl
+one-side-takes w v (l ∷ ms) [] m n a b = inr refl
+one-side-takes w v (l ∷ ms) (k ∷ ns) m n (u, a, c) (x, b, e) =
+    absurd (one-taken w (side_of v) (side_of (turned v)) (deed_of w v) l k u x a (subst (λ (q : Deed). taken_at w (side_of (turned v)) q k x) (deed-of-turned w v) b))
+
+-- One list after another
+
+pub takes-both : (w : World) (v m n : View) (ms ns : List Message) → TakesAll w v ms m → TakesAll w m ns n → TakesAll w v (ms ++ ns) n
+takes-both w v m n [] ns a b = subst (λ (z : View). TakesAll w z ns n) (sym a) b
+takes-both w v m n (x ∷ ms) ns (u, t, a) b = (u, t, takes-both w u m n ms ns a b)
+
+-- Two ends that an identity joins
+
+-- are seen as one type from its two sides
+pub joined-views : (negated : Bool) (s r : Side) (t u : ChanType) → AreJoined negated s r t u → view_of r u ≡ turned (view_of s t)
+joined-views false s r t u (i, j) =
+    ap (λ (q : Side). plain.view_of q (bare_chan u)) i ∙ (ap (λ (z : ChanType). plain.view_of (opposite s) z) (sym j) ∙ view-turned s (bare_chan t))
+joined-views true s r t u (i, j) =
+    let from : plain.view_of s (bare_chan t) ≡ turned (plain.view_of s (bare_chan u)) = ap (λ (z : ChanType). plain.view_of s z) j in
+    ap (λ (q : Side). plain.view_of q (bare_chan u)) i ∙ (sym (turned-twice (plain.view_of s (bare_chan u))) ∙ ap turned (sym from))

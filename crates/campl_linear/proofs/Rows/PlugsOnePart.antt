@@ -1,0 +1,35 @@
+-- The tree of this source:
+--
+--     proc run :: | => where
+--         | => -> plug c :: TopBot of
+--             => c -> halt c
+use Rattle.std.specs.Prelude.{[], ◌∷◌, Some, codes}
+use Rattle.campl_tree.specs.Plain.Decl.{Program}
+use Rattle.campl_linear.proofs.Rows.Trees.{place, ident, header, link}
+use Rattle.campl_tree.specs.Plain.ChanType as c
+use Rattle.campl_tree.specs.Plain.Process as b
+use Rattle.campl_tree.specs.Plain.Decl as d
+
+abbrev pub run_process : d.ProcessDecl
+run_process =
+    record {
+      place = place 1 1;
+      name = ident 1 6 (codes "run");
+      parameters = [];
+      inputs = [];
+      outputs = [];
+      row = record {
+        place = place 2 5;
+        variables = [];
+        inputs = [];
+        outputs = [];
+        body = b.Plug (place 2 13)
+            (link (ident 2 18 (codes "c")) c.TopBot ∷ [])
+            (b.part_then (header (place 3 9) [] (ident 3 12 (codes "c") ∷ []))
+            (b.Halt (place 3 17) (Some (ident 3 22 (codes "c"))))
+            b.no_parts);
+      };
+    }
+
+abbrev pub plugs_one_part : Program
+plugs_one_part = d.Process run_process ∷ []
