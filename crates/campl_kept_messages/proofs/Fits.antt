@@ -17,7 +17,7 @@ use Rattle.campl_types.specs.Names.{Name, same_name, found}
 use Rattle.campl_types.proofs.Names.{same-is}
 use Rattle.campl_types.specs.Prelude.{letters}
 use Rattle.campl_types.specs.SameType.{bare_chan}
-use Rattle.campl_types.specs.Matching.{number_of, is_number}
+use Rattle.campl_types.specs.Matching.{number_of, is_number, row_picked}
 use Rattle.campl_types.specs.World.{World, world_of}
 use Rattle.campl_types.specs.Polarity.{Choices}
 use Rattle.campl_types.specs.Held.{Channel, On}
@@ -30,14 +30,14 @@ use Rattle.campl_service.specs.declared.phase.Want.TheVariants as want
 use Rattle.campl_service.specs.Scripts.{Lines}
 use Rattle.campl_service.specs.Services as services
 use Rattle.campl_service.specs.Services.{Action, action_in, action, asked, took, want_in}
-use Rattle.campl_soundness.specs.Evaluation.{Answer, Done, Deep, Wrong, More, value_of}
-use Rattle.campl_soundness.specs.Typed.{IsOf, Fine}
-use Rattle.campl_soundness.proofs.Declared.{typed-world}
-use Rattle.campl_soundness.proofs.Sources.{put-fine}
+use Rattle.campl_evaluation.specs.Evaluation.{Answer, Done, Deep, Wrong, More, value_of}
+use Rattle.campl_evaluation.specs.Typed.{Fine}
+use Rattle.campl_evaluation.proofs.Declared.{typed-world}
+use Rattle.campl_evaluation.proofs.Sources.{put-fine}
 use Rattle.campl_peel.specs.Terms.{Doing, held_ends}
 use Rattle.campl_meaning.specs.States as k
 use Rattle.campl_meaning.specs.States.{Message, Word, Pick, EndPair, Running, Attending, State, Runs, Serves, Kind, Command}
-use Rattle.campl_meaning.specs.Bodies.{row_picked, bind}
+use Rattle.campl_meaning.specs.Bodies.{bind}
 use Rattle.campl_meaning.specs.Wants.{onward, spends, quiet, with_found, with_answer, next_command, term_command, on_word, on_pick, heard, hears, served, says, serving_command}
 use Rattle.campl_meaning.specs.Reductions.{Configuration, act_of, event_of}
 use Rattle.campl_meaning.specs.Wants.{wants}
@@ -48,6 +48,7 @@ use Rattle.campl_kept_messages.proofs.Passing.{IsChoice, may-get, may-offer}
 use Rattle.campl_kept_messages.proofs.Processes.{typed-now, well-now, stands, channel-of, first-taken}
 use Rattle.campl_kept_messages.proofs.Services as serving
 use Rattle.campl_kept_messages.proofs.Services.{service_choices, service-offers, service-gets, choice-asks, asks-of, takes-of, sends-of, in-phase}
+use Rattle.campl_types.specs.Values.{IsValue}
 
 -- it goes, or its end's partner owes nothing
 abbrev pub GoesOrWaits : World → Configuration → Who → End → Type 0
@@ -117,7 +118,7 @@ row-there w n x y (b.hcase_row_then k first rows) (h, i) number = go (is_number 
         (body, rw e picked)
 
 -- a text has characters
-pub text-chars : (w : World) (t : Tree) → IsOf w t letters → (cs : List ℕ) × (chars_of t ≡ Some cs)
+pub text-chars : (w : World) (t : Tree) → IsValue w t letters → (cs : List ℕ) × (chars_of t ≡ Some cs)
 text-chars w Nil h = ([], refl)
 text-chars w (Cell (Char c) rest) (h, k) = let (cs, e) = text-chars w rest k in (c ∷ cs, ap (option_map (λ (cs : List ℕ). c ∷ cs)) e)
 text-chars w (Cell (Int n) rest) (h, k) = absurd h
@@ -165,7 +166,7 @@ module _ (source : Program) (c : Configuration) (l : Lawful source c) (p : Path)
       let ((s, u, t, y, hx, puts, has, well), trees) = well-now source c l p r is (b.Then (b.Put at a x) rest) term in
       let (e, he) = end-at x.name (On s u) hx in
       let now = typed-now source c l p r is in
-      go e he (value_of w a r.variables r.spent) refl (λ v. IsOf w v t) (put-fine w (typed-world source l.accepted.typed) _ now.vars a t r.variables r.spent now.bound has)
+      go e he (value_of w a r.variables r.spent) refl (λ v. IsValue w v t) (put-fine w (typed-world source l.accepted.typed) _ now.vars a t r.variables r.spent now.bound has)
     where
       go : (e : End) → found x.name r.ends ≡ Some e → (o : Answer Tree) → value_of w a r.variables r.spent ≡ o → (P : Tree → Type 0) → Fine P o → MayReduce w c (Process p) ⊎ ((n : ℕ) × (value_of w a r.variables r.spent ≡ Deep n))
       go e he (Done v n) i P f = inl (by-command _ term (moved c (Process p) (record { send = Some (e, Word v); channels = []; children = []; next = Some (onward r (Doing rest) r.variables r.ends) }))

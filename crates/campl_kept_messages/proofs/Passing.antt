@@ -16,7 +16,6 @@ use Rattle.campl_types.specs.World.{World, world_of}
 use Rattle.campl_types.specs.Polarity.{Puts, Gets, Splits, Picks, Offers, Ends, Choices, deed}
 use Rattle.campl_types.specs.Views.{View, turned, deed_of}
 use Rattle.campl_types.specs.Held.{Channel, On}
-use Rattle.campl_soundness.specs.Typed.{IsOf}
 use Rattle.campl_meaning.specs.States.{Message, Word, Pick, EndPair, Running, Attending, State, Runs, Serves}
 use Rattle.campl_meaning.specs.Reductions.{Configuration}
 use Rattle.campl_meaning.specs.Views.{view_of, view_in, Takes, TakesAll}
@@ -26,6 +25,7 @@ use Rattle.campl_kept_messages.proofs.Takes.{TakesNone, none-taken, send-fits, p
 use Rattle.campl_kept_messages.proofs.Stays.{Continues, gone_on, stays}
 use Rattle.campl_kept_messages.proofs.Letters.{IsLetter, pair-before, sent-here, sent-other, taken-here, taken-other, send-pairs, take-pairs}
 use Rattle.campl_kept_messages.proofs.Frame.{renewed, new-here, new-other, unserved, touched}
+use Rattle.campl_types.specs.Values.{IsValue}
 
 -- only a type that may be closed is TopBot
 pub top-ends : (w : World) (s : Side) (u : ChanType) → bare_chan u ≡ TopBot → deed w s u ≡ Ends
@@ -62,7 +62,7 @@ pub record MayTake (w : World) (s : Side) (u : ChanType) (m : Message) (y : Chan
   pub not_top : bare_chan u ≢ TopBot
   pub next : (n : View) → Takes w (view_of s u) m n → n ≡ view_of s y
 
-pub may-put : (w : World) (s : Side) (u : ChanType) (t : SeqType) (y : ChanType) (a : Tree) → deed w s u ≡ Puts t y → IsOf w a t → MaySend w s u (Word a) y
+pub may-put : (w : World) (s : Side) (u : ChanType) (t : SeqType) (y : ChanType) (a : Tree) → deed w s u ≡ Puts t y → IsValue w a t → MaySend w s u (Word a) y
 may-put w s u t y a i h = record {
   letter = tt;
   none = putter w s u t y i;
@@ -81,7 +81,7 @@ may-pick w s u cs k x y i at = record {
 }
 
 -- the message that lies ready at a receipt of a value is a value of its type
-pub may-get : (w : World) (s : Side) (u : ChanType) (t : SeqType) (y : ChanType) (m : Message) (n : View) → deed w s u ≡ Gets t y → Takes w (view_of s u) m n → (a : Tree) × (m ≡ Word a) × IsOf w a t × MayTake w s u m y
+pub may-get : (w : World) (s : Side) (u : ChanType) (t : SeqType) (y : ChanType) (m : Message) (n : View) → deed w s u ≡ Gets t y → Takes w (view_of s u) m n → (a : Tree) × (m ≡ Word a) × IsValue w a t × MayTake w s u m y
 may-get w s u t y m n i h =
     let (a, e, is, q) = word-taken w s u t y m n i h in (
       a,

@@ -16,21 +16,21 @@ use Rattle.campl_machine.specs.Names.{Path, End, Process, Service}
 use Rattle.campl_machine.specs.Machine.{Looks, Does, taken}
 use Rattle.campl_types.specs.Names.{Name, found}
 use Rattle.campl_types.specs.Fits.{Vars}
-use Rattle.campl_types.specs.Matching.{Bindings, number_of, is_number}
+use Rattle.campl_types.specs.Matching.{Bindings, number_of, is_number, row_picked}
 use Rattle.campl_types.specs.World.{World, world_of}
 use Rattle.campl_types.specs.Polarity.{Choices}
 use Rattle.campl_types.specs.Held.{Channel, On, Held, with}
 use Rattle.campl_types.specs.Linear.{bound, IsWellFormed, RowsAreWellFormed}
 use Rattle.campl_types.specs.Views.{View}
-use Rattle.campl_soundness.specs.Evaluation.{Answer, Done, Deep, Wrong, More, value_of}
-use Rattle.campl_soundness.specs.Typed.{IsOf, AreBound, Fine}
-use Rattle.campl_soundness.proofs.Declared.{typed-world}
-use Rattle.campl_soundness.proofs.Sources.{filled-nothing, put-fine}
+use Rattle.campl_evaluation.specs.Evaluation.{Answer, Done, Deep, Wrong, More, value_of}
+use Rattle.campl_evaluation.specs.Typed.{AreBound, Fine}
+use Rattle.campl_evaluation.proofs.Declared.{typed-world}
+use Rattle.campl_evaluation.proofs.Sources.{filled-nothing, put-fine}
 use Rattle.campl_peel.specs.Terms.{Doing, TermIsWellFormed, held_ends}
 use Rattle.campl_peel.specs.Trees.{PlugsAreTrees, RowsHaveTrees}
 use Rattle.campl_meaning.specs.States as k
 use Rattle.campl_meaning.specs.States.{Message, Word, Pick, EndPair, Ends, Running, Attending, State, Runs, Serves, Kind, Command}
-use Rattle.campl_meaning.specs.Bodies.{row_picked, bind}
+use Rattle.campl_meaning.specs.Bodies.{bind}
 use Rattle.campl_meaning.specs.Wants.{onward, spends, quiet, sends, with_found, with_answer, next_command, term_command, on_word, on_pick}
 use Rattle.campl_meaning.specs.Reductions.{Configuration, act_of}
 use Rattle.campl_meaning.specs.Views.{view_of, view_in, Takes, TakesAll}
@@ -41,14 +41,15 @@ use Rattle.campl_kept_messages.proofs.Stays.{gone_on, from, stays}
 use Rattle.campl_kept_messages.proofs.Frame.{renewed, held-here}
 use Rattle.campl_kept_messages.proofs.Choices.{choices-of, numbered-choice}
 use Rattle.campl_kept_messages.proofs.Passing.{MayTake, second-of, may-put, may-pick, may-get, may-offer, send-lawful, take-lawful}
+use Rattle.campl_types.specs.Values.{IsValue}
 
 -- what is held under a name is the channel of the end there
 pub held-found : (channel : Channels) (es : Ends) (x : Name) (e : End) → found x es ≡ Some e → held_ends channel es x ≡ channel e
 held-found channel es x e h = rw h refl
 
 -- a value under a binder
-bind-bound : (w : World) (v : Binder) (a : Tree) (t : SeqType) (bs : Bindings) (vs : Vars) → IsOf w a t → AreBound w [] bs vs → AreBound w [] (bind v a bs) (bound v t vs)
-bind-bound w (binder.Variable at x) a t bs vs h i = (refl, subst (λ u. IsOf w a u) (sym (filled-nothing t)) h, i)
+bind-bound : (w : World) (v : Binder) (a : Tree) (t : SeqType) (bs : Bindings) (vs : Vars) → IsValue w a t → AreBound w [] bs vs → AreBound w [] (bind v a bs) (bound v t vs)
+bind-bound w (binder.Variable at x) a t bs vs h i = (refl, subst (λ u. IsValue w a u) (sym (filled-nothing t)) h, i)
 bind-bound w (binder.Wildcard at) a t bs vs h i = i
 
 -- the row of a constructor with this number
@@ -169,7 +170,7 @@ module _ (source : Program) (c : Configuration) (l : Lawful source c) (p : Path)
         go e he v n hv is_sent =
             let ((s, u, t, y, hx, puts, has, well), trees) = well-now (b.Then (b.Put at a x) rest) term in
             let (stood, (f, joined)) = stands x.name e he in
-            let fine : IsOf w v t = subst (Fine (λ v. IsOf w v t)) hv (put-fine w (typed-world source l.accepted.typed) _ typed-now.vars a t r.variables r.spent typed-now.bound has) in
+            let fine : IsValue w v t = subst (Fine (λ v. IsValue w v t)) hv (put-fine w (typed-world source l.accepted.typed) _ typed-now.vars a t r.variables r.spent typed-now.bound has) in
             subst (Lawful source) (sym is_sent)
             (send-lawful source c l (Process p) (Runs r) (onward r (Doing rest) r.variables r.ends) e f s u y (Word v) is stood joined (channel-of x.name e he (On s u) hx) (may-put w s u t y v puts fine)
             (refl, omega arith) (typed-on x.name e he (On s y) typed-now.vars r.variables rest typed-now.bound well trees) (λ n b k. absurd (cc k)))

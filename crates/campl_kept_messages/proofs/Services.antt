@@ -27,7 +27,6 @@ use Rattle.campl_service.specs.Scripts.{Lines}
 use Rattle.campl_service.specs.Transcripts.{Took, Sent, Closed}
 use Rattle.campl_service.specs.Services as services
 use Rattle.campl_service.specs.Services.{Serving, Action, in_phase, noting, with_script, action_in, action, asked, took, want_in, want}
-use Rattle.campl_soundness.specs.Typed.{IsOf}
 use Rattle.campl_meaning.specs.States.{Message, Word, Pick, Attending, State, Serves}
 use Rattle.campl_meaning.specs.Wants.{heard, served, hears, says, serving_command}
 use Rattle.campl_meaning.specs.Reductions.{Configuration, act_of}
@@ -38,6 +37,7 @@ use Rattle.campl_kept_messages.proofs.Stays.{gone_on, given_up_at, other-place, 
 use Rattle.campl_kept_messages.proofs.Letters.{pair-there, take-pairs}
 use Rattle.campl_kept_messages.proofs.Frame.{renewed, new-here}
 use Rattle.campl_kept_messages.proofs.Passing.{MaySend, MayTake, IsChoice, may-put, may-get, may-offer, send-lawful, take-lawful, take-lawful-at}
+use Rattle.campl_types.specs.Values.{IsValue}
 
 -- What may be sent and taken doesn't depend on places
 
@@ -111,7 +111,7 @@ pub sends-of : (sv : Serving) (lines : Lines) → sv.phase ≡ phase.Send → sv
 sends-of sv lines ph script = ap (λ t. action_in t sv None) ph ∙ ap (services.sent sv) script
 
 -- a line is a text
-pub text-is : (w : World) (cs : List ℕ) → IsOf w (text_of cs) letters
+pub text-is : (w : World) (cs : List ℕ) → IsValue w (text_of cs) letters
 text-is w [] = tt
 text-is w (c ∷ cs) = (tt, text-is w cs)
 

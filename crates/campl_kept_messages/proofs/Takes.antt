@@ -14,11 +14,11 @@ use Rattle.campl_types.specs.Polarity.{Deed, Puts, Gets, Forks, Splits, Picks, O
 use Rattle.campl_types.specs.Views as v
 use Rattle.campl_types.specs.Views.{View, As, Nothing, turned, deed_of, side_of}
 use Rattle.campl_types.proofs.Turned.{view-turned}
-use Rattle.campl_soundness.specs.Typed.{IsOf}
-use Rattle.campl_soundness.proofs.Same.{of-same}
+use Rattle.campl_evaluation.proofs.Same.{of-same}
 use Rattle.campl_meaning.specs.States.{Message, Word, Pick, EndPair}
 use Rattle.campl_meaning.specs.Views.{view_of, taken_at, Takes, TakesAll}
 use Rattle.campl_kept_messages.proofs.Bare.{bare_choices, bare_deed, deed-bare, puts-of, gets-of, picks-of, offers-of}
+use Rattle.campl_types.specs.Values.{IsValue}
 
 -- The table from the other side
 
@@ -162,7 +162,7 @@ module _ (w : World) (s : Side) (u : ChanType) where
       cc e
 
   -- a value that is given is taken on the other side
-  pub word-given : (t : SeqType) (y : ChanType) (a : Tree) → deed w s u ≡ Puts t y → IsOf w a t → Takes w (turned (view_of s u)) (Word a) (turned (view_of s y))
+  pub word-given : (t : SeqType) (y : ChanType) (a : Tree) → deed w s u ≡ Puts t y → IsValue w a t → Takes w (turned (view_of s u)) (Word a) (turned (view_of s y))
   word-given t y a i h =
       let (r, x, j, p, q) = bare-puts t y i in
       subst (λ z. Takes w (turned z) (Word a) (turned (view_of s y))) (sym (plain w s u (λ k. cc (i, k))))
@@ -170,12 +170,12 @@ module _ (w : World) (s : Side) (u : ChanType) where
       (of-same w a t r (sym p) h, view-opposite s y x (sym q)))
 
   -- and what is taken is a value
-  pub word-taken : (t : SeqType) (y : ChanType) (m : Message) (n : View) → deed w s u ≡ Gets t y → Takes w (view_of s u) m n → (a : Tree) × (m ≡ Word a) × IsOf w a t × (n ≡ view_of s y)
+  pub word-taken : (t : SeqType) (y : ChanType) (m : Message) (n : View) → deed w s u ≡ Gets t y → Takes w (view_of s u) m n → (a : Tree) × (m ≡ Word a) × IsValue w a t × (n ≡ view_of s y)
   word-taken t y m n i h =
       let (r, x, j, p, q) = bare-gets t y i in
       go r x p q m (of-deed w s (bare_chan u) (Gets r x) m n j (subst (λ z. Takes w z m n) (plain w s u (λ k. cc (i, k))) h))
     where
-      go : (r : SeqType) (x : ChanType) → bare r ≡ bare t → bare_chan x ≡ bare_chan y → (m : Message) → taken_at w s (Gets r x) m n → (a : Tree) × (m ≡ Word a) × IsOf w a t × (n ≡ view_of s y)
+      go : (r : SeqType) (x : ChanType) → bare r ≡ bare t → bare_chan x ≡ bare_chan y → (m : Message) → taken_at w s (Gets r x) m n → (a : Tree) × (m ≡ Word a) × IsValue w a t × (n ≡ view_of s y)
       go r x p q (Word a) (g, e) = (a, refl, of-same w a r t p g, e ∙ ap (v.view_of s) q)
       go r x p q (Pick k) g = absurd g
       go r x p q (EndPair e f) g = absurd g

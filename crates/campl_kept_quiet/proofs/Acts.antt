@@ -2,7 +2,7 @@
 use Rattle.std.proofs.Common.{◌≡◌, ◌⊎◌, inl, inr, refl, ℕ, suc, Bool, true, false, Option, Some, None, if◌then◌else◌}
 use Rattle.campl_machine.specs.Names.{Path, End, Process}
 use Rattle.campl_machine.specs.Machine.{Does}
-use Rattle.campl_soundness.specs.Evaluation.{Answer, Done, Deep, Wrong, More}
+use Rattle.campl_evaluation.specs.Evaluation.{Answer, Done, Deep, Wrong, More}
 use Rattle.campl_meaning.specs.States.{Running, Kind, Command}
 use Rattle.campl_meaning.specs.Wants.{with_found, with_answer}
 use Rattle.campl_meaning.specs.Reductions.{Configuration}

@@ -29,7 +29,7 @@ use Rattle.campl_types.proofs.Names.{same-is}
 use Rattle.campl_types.proofs.Turned.{turned-twice}
 use Rattle.campl_service.specs.declared.phase.Phase.TheVariants as phase
 use Rattle.campl_service.specs.Scripts.{Lines}
-use Rattle.campl_soundness.specs.Typed.{AreBound}
+use Rattle.campl_evaluation.specs.Typed.{AreBound}
 use Rattle.campl_peel.specs.Terms.{Doing, held_ends}
 use Rattle.campl_meaning.specs.States.{Message, EndPair, Ends, Running, Attending, State, Runs, Serves}
 use Rattle.campl_meaning.specs.Reductions.{Configuration}

@@ -17,10 +17,10 @@ use Rattle.campl_types.specs.Held.{Channel, On, HoldsOnly, nothing_held}
 use Rattle.campl_types.specs.Linear.{IsWellFormed, AreHanded, ProcessIsTyped, row_channels, row_variables, hold}
 use Rattle.campl_types.specs.Sequential.{PartsHaveTypes}
 use Rattle.campl_types.proofs.Runs.{length-map}
-use Rattle.campl_soundness.specs.Evaluation.{values_of}
-use Rattle.campl_soundness.specs.Typed.{AllAreOf, Fine}
-use Rattle.campl_soundness.proofs.Declared.{typed-world}
-use Rattle.campl_soundness.proofs.Sources.{arguments-fine}
+use Rattle.campl_evaluation.specs.Evaluation.{values_of}
+use Rattle.campl_evaluation.specs.Typed.{Fine}
+use Rattle.campl_evaluation.proofs.Declared.{typed-world}
+use Rattle.campl_evaluation.proofs.Sources.{arguments-fine}
 use Rattle.campl_peel.specs.Trees.{PlugsAreTrees}
 use Rattle.campl_peel.specs.Terms.{Doing, held_ends}
 use Rattle.campl_meaning.specs.States.{Ends, Running, Runs}
@@ -35,6 +35,7 @@ use Rattle.campl_kept_quiet.proofs.Acts.{found-does, answer-does}
 use Rattle.campl_kept_quiet.proofs.Steps.{typed-body, works, none-else}
 use Rattle.campl_kept_quiet.proofs.Processes.{process-typed, all-bound}
 use Rattle.campl_kept_quiet.proofs.Handed.{distinct-right, names-append, Among, Differ, is_end, end-among, among-end, found-among, among-found, one-name, Are, are-append, handed-are, both-split, Fit, fit-append, handed-fit, retyped, retyped-alike, retyped-others, listed, hold-listed, listed-append, held-is, among-from, named-among, are-differ}
+use Rattle.campl_types.specs.Values.{AllAreValues}
 
 -- the types of a heading
 abbrev pub heading : ProcessDecl → List Channel
@@ -78,7 +79,7 @@ module _ (source : Program) (c : Configuration) (p : Path) (r : Running) (l : La
   abbrev after : Channels
   after = retyped es (heading d) l.channel
 
-  called : (vs : List Tree) → ProcessIsTyped w d → PlugsAreTrees d.row.body → AllAreOf w vs d.parameters → IsTrue (are_distinct xs) → HoldsOnly xs (held_ends l.channel r.ends)
+  called : (vs : List Tree) → ProcessIsTyped w d → PlugsAreTrees d.row.body → AllAreValues w vs d.parameters → IsTrue (are_distinct xs) → HoldsOnly xs (held_ends l.channel r.ends)
       → Are r.ends xs es → end_names es ≡ names_of d.row.inputs ++ names_of d.row.outputs → Fit l.channel es (heading d)
       → Lawful source (behind c p (Some (record { term = Doing d.row.body; variables = bind_all d.row.variables vs; ends = es; steps = suc r.steps; spent = 0 })))
   called vs (distinct, long, longer, longest, closed, well) trees values differ only are names fit = frame source c l p r (Some next) is (record {
@@ -136,12 +137,12 @@ keeps-call at x args inputs outputs source c d p r i l is t does =
     let (f, f-named, k) = found-does c p r d _ (process_named (world_of source) x) _ does in
     let (es, both, k2) = found-does c p r d _ (both_ends (handed f.row.inputs inputs r.ends) (handed f.row.outputs outputs r.ends)) _ k in
     let same : q ≡ f = cc (sym named ∙ f-named) in
-    let fine : Fine (λ us. AllAreOf (world_of source) us f.parameters) (values_of (world_of source) args r.variables r.spent) =
+    let fine : Fine (λ us. AllAreValues (world_of source) us f.parameters) (values_of (world_of source) args r.variables r.spent) =
     arguments-fine (world_of source) (typed-world source l.accepted.typed) vs f.parameters args r.variables r.spent bound (subst (λ (z : ProcessDecl). PartsHaveTypes (world_of source) vs [] [] z.parameters args) same parts) in
     elim (answer-does c p r d _ None (values_of (world_of source) args r.variables r.spent) _ k2) [
       | inr g ↦ subst (Lawful source) (sym g) (works source c p r l is)
       | inl (us, left, done, g) ↦
-          let values : AllAreOf (world_of source) us f.parameters = subst (Fine (λ z. AllAreOf (world_of source) z f.parameters)) done fine in
+          let values : AllAreValues (world_of source) us f.parameters = subst (Fine (λ z. AllAreValues (world_of source) z f.parameters)) done fine in
           let (are, names, fit) = handing source c p r l is f inputs outputs es both
           (subst (λ (z : ProcessDecl). AreHanded (held_ends l.channel r.ends) Input inputs z.inputs) same ins)
           (subst (λ (z : ProcessDecl). AreHanded (held_ends l.channel r.ends) Output outputs z.outputs) same outs) in

@@ -10,12 +10,13 @@ use Rattle.campl_types.specs.World.{World, world_of, or_else, where_named, decla
 use Rattle.campl_types.specs.Free.{all_have_constructors}
 use Rattle.campl_types.specs.Linear.{ProcessIsTyped, ProcessesAreTyped, row_variables, bound}
 use Rattle.campl_types.specs.Typed.{IsTyped}
-use Rattle.campl_soundness.specs.Typed.{IsOf, AllAreOf, AreBound}
-use Rattle.campl_soundness.proofs.Bound.{bound-append}
-use Rattle.campl_soundness.proofs.Sources.{filled-nothing}
+use Rattle.campl_evaluation.specs.Typed.{AreBound}
+use Rattle.campl_evaluation.proofs.Bound.{bound-append}
+use Rattle.campl_evaluation.proofs.Sources.{filled-nothing}
 use Rattle.campl_meaning.specs.Bodies.{bind, bind_all}
 use Rattle.campl_meaning.specs.Lawful.{IsAccepted}
 use Rattle.campl_peel.specs.Trees.{PlugsAreTrees, ProcessesHaveTrees}
+use Rattle.campl_types.specs.Values.{IsValue, AllAreValues}
 
 abbrev EntryIsTyped : World → LowerEntry → Type 0
 EntryIsTyped w (AFunction f) = Unit {0}
@@ -49,12 +50,12 @@ processes-are-typed w ds h x d i = go (lower_named ds x) refl (entry-typed w ds 
 pub process-typed : (source : Program) → IsTyped source → (x : Name) (d : ProcessDecl) → process_named (world_of source) x ≡ Some d → ProcessIsTyped (world_of source) d
 process-typed source i = processes-are-typed (world_of source) (world_of source) (tt, (tt, i.processes))
 
-one-bound : (w : World) (x : Binder) (t : SeqType) (v : Tree) → IsOf w v t → AreBound w [] (bind x v []) (bound x t [])
-one-bound w (binder.Variable at x) t v h = (refl, subst (IsOf w v) (sym (filled-nothing t)) h, tt)
+one-bound : (w : World) (x : Binder) (t : SeqType) (v : Tree) → IsValue w v t → AreBound w [] (bind x v []) (bound x t [])
+one-bound w (binder.Variable at x) t v h = (refl, subst (IsValue w v) (sym (filled-nothing t)) h, tt)
 one-bound w (binder.Wildcard at) t v h = tt
 
 -- its row's variables stand for the values that it is given
-pub all-bound : (w : World) (xs : List Binder) (ts : List SeqType) (vs : List Tree) → AllAreOf w vs ts → AreBound w [] (bind_all xs vs) (row_variables xs ts)
+pub all-bound : (w : World) (xs : List Binder) (ts : List SeqType) (vs : List Tree) → AllAreValues w vs ts → AreBound w [] (bind_all xs vs) (row_variables xs ts)
 all-bound w [] ts vs h = tt
 all-bound w (x ∷ xs) [] [] h = tt
 all-bound w (x ∷ xs) (t ∷ ts) (v ∷ vs) (h, k) =

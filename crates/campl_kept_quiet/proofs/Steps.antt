@@ -26,10 +26,10 @@ use Rattle.campl_types.specs.Matching.{Bindings, first_match}
 use Rattle.campl_types.specs.Linear.{IsWellFormed, BranchesAreWellFormed, CasesAreWellFormed, body_rows}
 use Rattle.campl_types.specs.Sequential.{Found, AreExhaustive}
 use Rattle.campl_types.proofs.Names.{same-itself, split-names}
-use Rattle.campl_soundness.specs.Evaluation.{value_of}
-use Rattle.campl_soundness.specs.Typed.{IsOf, Fine, AreBound}
-use Rattle.campl_soundness.proofs.Declared.{typed-world}
-use Rattle.campl_soundness.proofs.Sources.{put-fine, case-goes, row_body}
+use Rattle.campl_evaluation.specs.Evaluation.{value_of}
+use Rattle.campl_evaluation.specs.Typed.{Fine, AreBound}
+use Rattle.campl_evaluation.proofs.Declared.{typed-world}
+use Rattle.campl_evaluation.proofs.Sources.{put-fine, case-goes, row_body}
 use Rattle.campl_peel.specs.Trees.{PlugsAreTrees, CasesHaveTrees, BranchesHaveTrees}
 use Rattle.campl_peel.specs.Terms.{Doing, held_ends, TermIsWellFormed}
 use Rattle.campl_meaning.specs.States.{Running, Runs}
@@ -43,6 +43,7 @@ use Rattle.campl_kept_quiet.proofs.Alike.{alike-itself}
 use Rattle.campl_kept_quiet.proofs.Frame.{frame}
 use Rattle.campl_kept_quiet.proofs.Acts.{spent_more, found-does, answer-does, if-does}
 use Rattle.campl_kept_quiet.proofs.Without.{without-was, without-is, without-held, less-distinct}
+use Rattle.campl_types.specs.Values.{IsValue}
 
 -- what may be closed
 named-ends : (e : Option TypeEntry) (s : Side) (ts : List SeqType) → of_named e s ts ≡ Ends → ⊥
@@ -228,7 +229,7 @@ keeps-halt at (Some x) source c d p r i l is t does =
 goes-case : (source : Program) (c : Configuration) (p : Path) (r : Running) (l : Lawful source c) (is : c.nodes (Process p) ≡ Some (Runs r)) (at : Place) (a : Expr) (rows : CaseRows)
     (vs : Vars) (type : SeqType) (v : Tree) (m : ℕ × Bindings) (body : Body) → AreBound (world_of source) [] r.variables vs
     → CasesAreWellFormed (world_of source) vs (held_ends l.channel r.ends) type rows → AreExhaustive (world_of source) (body_rows rows) (type ∷ []) → CasesHaveTrees rows
-    → IsOf (world_of source) v type → first_match (world_of source) (body_rows rows) (v ∷ []) ≡ Some m → row_at rows m.0 ≡ Some body
+    → IsValue (world_of source) v type → first_match (world_of source) (body_rows rows) (v ∷ []) ≡ Some m → row_at rows m.0 ≡ Some body
     → Lawful source (behind c p (Some (record { term = Doing body; variables = m.1 ++ r.variables; ends = r.ends; steps = suc r.steps; spent = 0 })))
 goes-case source c p r l is at a rows vs type v m body bound cases all trees v-is first row =
     let (n, q, us, first2, place, bound2, well) = case-goes (world_of source) (typed-world source l.accepted.typed) vs (held_ends l.channel r.ends) type rows v r.variables cases all bound v-is in
@@ -249,7 +250,7 @@ keeps-case at a rows source c d p r i l is t does =
     elim (answer-does c p r d _ None (value_of (world_of source) a r.variables r.spent) _ does) [
       | inr g ↦ subst (Lawful source) (sym g) (works source c p r l is)
       | inl (v, left, done, k) ↦
-          let v-is : IsOf (world_of source) v type = subst (Fine (λ z. IsOf (world_of source) z type)) done fine in
+          let v-is : IsValue (world_of source) v type = subst (Fine (λ z. IsValue (world_of source) z type)) done fine in
           let (m, first, k2) = found-does c p r d _ (first_match (world_of source) (body_rows rows) (v ∷ [])) _ k in
           let (body, row, g) = found-does c p r d _ (row_at rows m.0) _ k2 in
           subst (Lawful source) (sym g) (goes-case source c p r l is at a rows vs type v m body bound cases all trees v-is first row)

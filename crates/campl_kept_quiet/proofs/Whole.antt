@@ -10,7 +10,7 @@ use Rattle.campl_types.specs.Names.{Name, found}
 use Rattle.campl_types.specs.World.{World, world_of, process_named}
 use Rattle.campl_types.specs.Matching.{first_match, number_of}
 use Rattle.campl_types.specs.Linear.{body_rows}
-use Rattle.campl_soundness.specs.Evaluation.{Answer, Done, Deep, Wrong, More, value_of, values_of}
+use Rattle.campl_evaluation.specs.Evaluation.{Answer, Done, Deep, Wrong, More, value_of, values_of}
 use Rattle.campl_peel.specs.Numbered.{last_first}
 use Rattle.campl_peel.specs.Peel.{Peel, peel_of}
 use Rattle.campl_peel.specs.Terms.{Term, Doing, Plugging}

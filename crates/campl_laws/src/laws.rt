@@ -33,8 +33,9 @@ ghost use Rattle.campl_meaning.specs.Reductions.{Configuration, Event, act_of, r
 ghost use Rattle.campl_meaning.specs.Start.{start};
 ghost use Rattle.campl_meaning.specs.States.{Message, Running, Runs, State};
 ghost use Rattle.campl_progress.specs.Deep.{SaysDeep, SaysWrong};
-ghost use Rattle.campl_soundness.specs.Evaluation.{value_of};
-ghost use Rattle.campl_soundness.specs.Typed.{AreBound, Fine, IsOf};
+ghost use Rattle.campl_evaluation.specs.Evaluation.{value_of};
+ghost use Rattle.campl_evaluation.specs.Typed.{AreBound, Fine};
+ghost use Rattle.campl_types.specs.Values.{IsValue};
 
 /// Where each protocol has a constructor, a source is accepted exactly where its names, functions and processes are judged to have no fault.
 pub fn law_accepted()
@@ -154,5 +155,5 @@ pub fn law_prefix()
 pub fn law_soundness()
     ensures { (source : Program) → IsAccepted source → (way : Way) (f : Filling) (vs : Vars) (a : Expr) (t : SeqType) (variables : Bindings) (n : ℕ)
         → AreBound (world_of source) f variables vs → HasType way (world_of source) vs a t
-        → Fine (λ v. IsOf (world_of source) v (filled f t)) (value_of (world_of source) a variables n) }
+        → Fine (λ v. IsValue (world_of source) v (filled f t)) (value_of (world_of source) a variables n) }
 {}

@@ -6,19 +6,19 @@ use Rattle.campl_machine.specs.Names.{Path, End, Who, Process, Service}
 use Rattle.campl_machine.specs.Machine.{Does}
 use Rattle.campl_types.specs.Names.{found}
 use Rattle.campl_types.specs.World.{World, process_named}
-use Rattle.campl_types.specs.Matching.{first_match, number_of, is_number}
+use Rattle.campl_types.specs.Matching.{first_match, number_of, is_number, row_picked}
 use Rattle.campl_types.specs.Linear.{body_rows}
 use Rattle.campl_service.specs.declared.phase.Want.{Want}
 use Rattle.campl_service.specs.declared.phase.Want.TheVariants as want
 use Rattle.campl_service.specs.Services.{Action, action}
 use Rattle.campl_service.specs.Services as services
-use Rattle.campl_soundness.specs.Evaluation.{Answer, Done, Deep, Wrong, More, value_of, values_of}
+use Rattle.campl_evaluation.specs.Evaluation.{Answer, Done, Deep, Wrong, More, value_of, values_of}
 use Rattle.campl_peel.specs.Numbered.{part_at, add_part, picked, last_first}
 use Rattle.campl_peel.specs.Plugging.{links_to}
 use Rattle.campl_peel.specs.Peel.{Peel, peel_of, peel_by}
 use Rattle.campl_peel.specs.Terms.{Term, Doing, Plugging, left, left_behind}
 use Rattle.campl_meaning.specs.States.{Message, Word, Pick, EndPair, Ends, Running, Attending, State, Runs, Serves, Kind, Command}
-use Rattle.campl_meaning.specs.Bodies.{row_picked, row_at, handed, both_ends, bind, without_end}
+use Rattle.campl_meaning.specs.Bodies.{row_at, handed, both_ends, bind, without_end}
 use Rattle.campl_meaning.specs.Wants.{with_found, with_answer, peels, next_command, term_command, on_word, on_pick, on_ends, onward, served, says, serving_command, wants}
 use Rattle.campl_meaning.specs.Reductions.{Configuration, act_of}
 use Rattle.campl_meaning.specs.Races.{HasNoRace, RowsHaveNoRace, CasesHaveNoRace, PartsHaveNoRace, WorldHasNoRace, TermHasNoRace, StateHasNoRace, IsWithoutRace}

@@ -14,7 +14,7 @@ use Rattle.campl_service.specs.Scripts.{Lines}
 use Rattle.campl_service.specs.Services.{Action, action, want, want_in}
 use Rattle.campl_value.specs.declared.message.Message.TheVariants as m
 use Rattle.campl_value.specs.declared.message.Message as of_service
-use Rattle.campl_soundness.specs.Evaluation.{Answer, Done, Deep, Wrong, More, value_of, values_of}
+use Rattle.campl_evaluation.specs.Evaluation.{Answer, Done, Deep, Wrong, More, value_of, values_of}
 use Rattle.campl_peel.specs.Numbered.{last_first}
 use Rattle.campl_peel.specs.Peel.{Peel, peel_of}
 use Rattle.campl_peel.specs.Terms.{Term, Doing, Plugging}

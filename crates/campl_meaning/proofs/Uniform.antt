@@ -6,15 +6,15 @@ use Rattle.campl_machine.specs.Names.{Path, End, Who, Process}
 use Rattle.campl_machine.specs.Machine.{Act}
 use Rattle.campl_types.specs.Names.{Name, found}
 use Rattle.campl_types.specs.World.{World, process_named}
-use Rattle.campl_types.specs.Matching.{Bindings, first_match, number_of}
+use Rattle.campl_types.specs.Matching.{Bindings, first_match, number_of, row_picked}
 use Rattle.campl_types.specs.Linear.{body_rows}
 use Rattle.campl_value.specs.Tree.{Tree}
-use Rattle.campl_soundness.specs.Evaluation.{Answer, Done, Deep, Wrong, More, value_of, values_of}
+use Rattle.campl_evaluation.specs.Evaluation.{Answer, Done, Deep, Wrong, More, value_of, values_of}
 use Rattle.campl_peel.specs.Numbered.{last_first}
 use Rattle.campl_peel.specs.Peel.{Peel, peel_of}
 use Rattle.campl_peel.specs.Terms.{Term, Doing, Plugging}
 use Rattle.campl_meaning.specs.States.{Message, Word, Pick, EndPair, Ends, Running, State, Kind, Command}
-use Rattle.campl_meaning.specs.Bodies.{row_picked, row_at, branch_at, are_held, handed, both_ends, bind, without_end}
+use Rattle.campl_meaning.specs.Bodies.{row_at, branch_at, are_held, handed, both_ends, bind, without_end}
 use Rattle.campl_meaning.specs.Wants.{child, with_found, with_answer, peels, chooses, next_command, term_command, on_word, on_pick, on_ends, onward, spends, newborn}
 use Rattle.campl_meaning.proofs.Nodes.{AllNext}
 

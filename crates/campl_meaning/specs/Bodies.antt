@@ -14,11 +14,6 @@ use Rattle.campl_machine.specs.Names.{End}
 
 -- Rows
 
--- the row of `hcase` whose constructor has this number in its declaration
-abbrev pub row_picked : World → ℕ → HcaseRows → Option Body
-row_picked w n b.no_hcase_rows = None
-row_picked w n (b.hcase_row_then k body rows) = if is_number (number_of w k.name) n then Some body else row_picked w n rows
-
 -- the row of `case` at this place, from 0
 abbrev pub row_at : CaseRows → ℕ → Option Body
 row_at b.no_case_rows i = None

@@ -15,13 +15,12 @@ use Rattle.campl_types.specs.Polarity.{Splits}
 use Rattle.campl_types.specs.Views.{View, turned, deed_of, side_of}
 use Rattle.campl_types.specs.Fits.{Vars}
 use Rattle.campl_types.specs.Held.{Channel, On}
-use Rattle.campl_types.specs.Free.{all_have_constructors}
 use Rattle.campl_types.specs.Typed.{IsTyped}
 use Rattle.campl_service.specs.declared.phase.ServiceKind.{ServiceKind}
 use Rattle.campl_service.specs.declared.phase.ServiceKind.TheVariants.{Console, Terminal}
 use Rattle.campl_service.specs.declared.phase.Phase.{Phase}
 use Rattle.campl_service.specs.declared.phase.Phase.TheVariants as phase
-use Rattle.campl_soundness.specs.Typed.{AreBound}
+use Rattle.campl_evaluation.specs.Typed.{AreBound}
 use Rattle.campl_peel.specs.Trees.{PlugsAreTrees}
 use Rattle.campl_peel.specs.Terms.{TermIsWellFormed, held_ends}
 use Rattle.campl_meaning.specs.States.{Message, EndPair, Running, Attending, State, Runs, Serves}
@@ -34,8 +33,6 @@ use Rattle.campl_meaning.specs.Apart.{Place, Gone, IsHeldBy, IsJoined, IsApart}
 -- the source is typed, and the parts of each plug are a tree
 pub record IsAccepted (source : Program) : Type 0 where
   pub typed : IsTyped source
-  -- each protocol and coprotocol has a line, so a body names what it holds
-  pub constructors : IsTrue (all_have_constructors (world_of source))
   pub trees : (x : Name) (p : ProcessDecl) → process_named (world_of source) x ≡ Some p → PlugsAreTrees p.row.body
 
 -- the side and type of each end, or that nothing more comes

@@ -12,21 +12,21 @@ use Rattle.campl_machine.specs.Names.{Path, Half, First, Second, End, Who, Proce
 use Rattle.campl_machine.specs.Machine.{Act, Moves, Looks, Links, Stands, Breaks}
 use Rattle.campl_types.specs.Names.{Name, found}
 use Rattle.campl_types.specs.World.{World, process_named}
-use Rattle.campl_types.specs.Matching.{Bindings, first_match, number_of}
+use Rattle.campl_types.specs.Matching.{Bindings, first_match, number_of, row_picked}
 use Rattle.campl_types.specs.Linear.{body_rows}
 use Rattle.campl_types.specs.Free.{is_free}
 use Rattle.campl_service.specs.declared.phase.Want.{Want}
 use Rattle.campl_service.specs.declared.phase.Want.TheVariants as want
 use Rattle.campl_service.specs.Services.{Action, action}
 use Rattle.campl_service.specs.Services as services
-use Rattle.campl_soundness.specs.Evaluation.{Answer, Done, Deep, Wrong, More, value_of, values_of}
+use Rattle.campl_evaluation.specs.Evaluation.{Answer, Done, Deep, Wrong, More, value_of, values_of}
 use Rattle.campl_peel.specs.Numbered.{last_first}
 use Rattle.campl_peel.specs.Plugging.{stands_in, side_in}
 use Rattle.campl_peel.specs.Peel.{Peel, peel_of}
 use Rattle.campl_peel.specs.Terms.{Term, Doing, Plugging, left_behind, those}
 use Rattle.campl_meaning.specs.States as k
 use Rattle.campl_meaning.specs.States.{Message, Word, Pick, EndPair, Ends, Running, Attending, State, Runs, Serves, Kind, Command}
-use Rattle.campl_meaning.specs.Bodies.{row_picked, row_at, branch_at, without_end, are_held, handed, both_ends, bind, bind_all}
+use Rattle.campl_meaning.specs.Bodies.{row_at, branch_at, without_end, are_held, handed, both_ends, bind, bind_all}
 
 -- The states behind a step
 

@@ -21,14 +21,14 @@ use Rattle.campl_types.specs.World.{World, process_named}
 use Rattle.campl_types.specs.Fits.{Vars}
 use Rattle.campl_types.specs.Held.{Held, Channel, On}
 use Rattle.campl_types.specs.Linear.{IsWellFormed, BranchesAreWellFormed, HasEachOnce, AreHanded, ProcessIsTyped, body_rows, receives_on}
-use Rattle.campl_types.specs.Matching.{first_match, number_of, is_number}
+use Rattle.campl_types.specs.Matching.{first_match, number_of, is_number, row_picked}
 use Rattle.campl_types.specs.Polarity.{Deed, Puts, Gets, Forks, Splits, Picks, Offers, Ends, IsLinked, Choices, deed}
 use Rattle.campl_types.specs.Sequential.{Found, Checked}
 use Rattle.campl_types.specs.Views.{View, deed_of, side_of}
-use Rattle.campl_soundness.specs.Evaluation.{Answer, Done, Deep, Wrong, More, value_of, values_of}
-use Rattle.campl_soundness.specs.Typed.{IsOf, AllAreOf, AreBound, Fine}
-use Rattle.campl_soundness.specs.Worlds.{IsSoundWorld}
-use Rattle.campl_soundness.proofs.Sources.{put-fine, arguments-fine, case-goes, row_body}
+use Rattle.campl_evaluation.specs.Evaluation.{Answer, Done, Deep, Wrong, More, value_of, values_of}
+use Rattle.campl_evaluation.specs.Typed.{AreBound, Fine}
+use Rattle.campl_evaluation.specs.Worlds.{IsSoundWorld}
+use Rattle.campl_evaluation.proofs.Sources.{put-fine, arguments-fine, case-goes, row_body}
 use Rattle.campl_peel.specs.Numbered.{last_first}
 use Rattle.campl_peel.specs.Peel.{Peel, peel_of}
 use Rattle.campl_peel.specs.Terms.{Term, Doing, Plugging, TermIsWellFormed, held_ends}
@@ -36,7 +36,7 @@ use Rattle.campl_peel.specs.Trees.{PlugsAreTrees}
 use Rattle.campl_peel.proofs.Terms.{term-peels}
 use Rattle.campl_meaning.specs.States as k
 use Rattle.campl_meaning.specs.States.{Message, Word, Pick, EndPair, Running, Attending, State, Runs, Serves, Kind, Command}
-use Rattle.campl_meaning.specs.Bodies.{row_picked, row_at, branch_at, are_held, handed, both_ends}
+use Rattle.campl_meaning.specs.Bodies.{row_at, branch_at, are_held, handed, both_ends}
 use Rattle.campl_meaning.specs.Wants.{command, with_found, with_answer, peels, chooses, next_command, term_command, on_word, on_pick, on_ends}
 use Rattle.campl_meaning.specs.Reductions.{Configuration}
 use Rattle.campl_meaning.specs.Views.{view_of, view_in, taken_at, Takes}
@@ -45,6 +45,7 @@ use Rattle.campl_meaning.specs.Lawful.{Channels, seen}
 use Rattle.campl_progress.specs.Deep.{BodyIsDeep, TermIsDeep, BodyIsWrong, TermIsWrong}
 use Rattle.campl_progress.proofs.Choices.{ChoicesAreKnown, offer-number, pick-number}
 use Rattle.campl_progress.proofs.Waits.{IsWaiting, Waits, Alike, alike}
+use Rattle.campl_types.specs.Values.{IsValue, AllAreValues}
 
 -- what a step wants of its node: a receipt's end stands there, its view waits, and each message that fits the view is taken
 pub record IsReceipt (w : World) (c : Configuration) (channel : Channels) (place : End → Place) (who : Who) (x : End) (f : Message → Option State) : Type 0 where
@@ -278,7 +279,7 @@ module _ (w : World) (good : IsSoundWorld w) (known : ChoicesAreKnown w) (proces
   body-answers i (b.Then (b.Put at a x) rest) (s, u, t, y, hx, d, typed, more) trees =
       let (e, fx, ce) = held-at channel r.ends x.name (On s u) hx in
       looked-up _ _ k.Put (found x.name r.ends) e _ fx
-      (evaluated _ _ k.Put (Some e) (λ v. IsOf w v t) (value_of w a r.variables r.spent) _ (put-fine w good Checked vs a t r.variables r.spent bound typed) (λ rest j. (rest, j)) (λ v fine. tt))
+      (evaluated _ _ k.Put (Some e) (λ v. IsValue w v t) (value_of w a r.variables r.spent) _ (put-fine w good Checked vs a t r.variables r.spent bound typed) (λ rest j. (rest, j)) (λ v fine. tt))
   body-answers i (b.Then (b.Get at v x) rest) (s, u, t, y, hx, d, more) trees =
       let (e, fx, ce) = held-at channel r.ends x.name (On s u) hx in
       looked-up _ _ k.Get (found x.name r.ends) e _ fx
@@ -316,7 +317,7 @@ module _ (w : World) (good : IsSoundWorld w) (known : ChoicesAreKnown w) (proces
       subst (λ t. Fits (i ≢ 0) ⊥ (if t then chooses r i (branch_at (b.branch_then x body rows) i) else command (k.Choose i) None Breaks)) (sym (all-held (b.branch_then x body rows) branches))
       (chosen (b.branch_then x body rows) i (branch_at (b.branch_then x body rows) i) refl (λ j. cc j) branches)
   body-answers i (b.Case at a rows) (t, typed, cases, exhaustive) trees =
-      evaluated _ _ k.Case None (λ v. IsOf w v t) (value_of w a r.variables r.spent) _ (put-fine w good Found vs a t r.variables r.spent bound typed) (λ rest j. (rest, j)) (λ v fine.
+      evaluated _ _ k.Case None (λ v. IsValue w v t) (value_of w a r.variables r.spent) _ (put-fine w good Found vs a t r.variables r.spent bound typed) (λ rest j. (rest, j)) (λ v fine.
       let (m, q, us, first, at, bind, more) = case-goes w good vs held t rows v r.variables cases exhaustive bound fine in
       looked-up _ _ k.Case (first_match w (body_rows rows) (v ∷ [])) m _ first (looked-up _ _ k.Case (row_at rows m.0) q.1 _ (row-there rows m.0 q at) tt))
   body-answers i (b.Identity at x negated y) (s, t, z, u, hx, hy, different, joined, only) trees =
@@ -329,7 +330,7 @@ module _ (w : World) (good : IsSoundWorld w) (known : ChoicesAreKnown w) (proces
       let (fs, outs) = handed-there channel r.ends Output d.row.outputs outputs d.outputs no' hout in
       looked-up _ _ k.Call (process_named w x) d _ is
       (looked-up _ _ k.Call (both_ends (handed d.row.inputs inputs r.ends) (handed d.row.outputs outputs r.ends)) (es ++ fs) _ (rw (ins, outs) refl)
-      (evaluated _ _ k.Call None (λ us. AllAreOf w us d.parameters) (values_of w args r.variables r.spent) _ (arguments-fine w good vs d.parameters args r.variables r.spent bound typed) (λ rest j. (rest, j)) (λ us fine. tt)))
+      (evaluated _ _ k.Call None (λ us. AllAreValues w us d.parameters) (values_of w args r.variables r.spent) _ (arguments-fine w good vs d.parameters args r.variables r.spent bound typed) (λ rest j. (rest, j)) (λ us fine. tt)))
 
   -- each term
   pub term-answers : (i : ℕ) (term : Term) → TermIsWellFormed w vs held term → Fits (i ≢ 0) (TermIsDeep w r term) (term_command w p r i term)
@@ -341,11 +342,11 @@ module _ (w : World) (good : IsSoundWorld w) (known : ChoicesAreKnown w) (proces
   -- no evaluation says Wrong
   body-not-wrong : (body : Body) → IsWellFormed w vs held body → BodyIsWrong w r body → ⊥
   body-not-wrong (b.Then (b.Put at a x) rest) (s, u, t, y, hx, d, typed, more) (n, i) =
-      not-wrong (λ v. IsOf w v t) (value_of w a r.variables r.spent) n (put-fine w good Checked vs a t r.variables r.spent bound typed) i
+      not-wrong (λ v. IsValue w v t) (value_of w a r.variables r.spent) n (put-fine w good Checked vs a t r.variables r.spent bound typed) i
   body-not-wrong (b.Case at a rows) (t, typed, cases, exhaustive) (n, i) =
-      not-wrong (λ v. IsOf w v t) (value_of w a r.variables r.spent) n (put-fine w good Found vs a t r.variables r.spent bound typed) i
+      not-wrong (λ v. IsValue w v t) (value_of w a r.variables r.spent) n (put-fine w good Found vs a t r.variables r.spent bound typed) i
   body-not-wrong (b.Call at x args inputs outputs) (d, is, typed, hin, hout, distinct_names, only) (n, i) =
-      not-wrong (λ us. AllAreOf w us d.parameters) (values_of w args r.variables r.spent) n (arguments-fine w good vs d.parameters args r.variables r.spent bound typed) i
+      not-wrong (λ us. AllAreValues w us d.parameters) (values_of w args r.variables r.spent) n (arguments-fine w good vs d.parameters args r.variables r.spent bound typed) i
   body-not-wrong body h i = absurd i
 
   pub not-wrong-term : (term : Term) → TermIsWellFormed w vs held term → TermIsWrong w r term → ⊥

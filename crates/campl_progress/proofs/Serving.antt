@@ -25,7 +25,6 @@ use Rattle.campl_service.specs.declared.phase.Want.TheVariants as want
 use Rattle.campl_service.specs.Scripts.{Lines}
 use Rattle.campl_service.specs.Services.{Serving, Action, action, action_in, asked, took}
 use Rattle.campl_service.specs.Services as services
-use Rattle.campl_soundness.specs.Typed.{IsOf}
 use Rattle.campl_meaning.specs.States.{Message, Word, Pick, EndPair, Attending, State, Serves}
 use Rattle.campl_meaning.specs.Wants.{hears, served, says, serving_command}
 use Rattle.campl_meaning.specs.Reductions.{Configuration}
@@ -34,9 +33,10 @@ use Rattle.campl_meaning.specs.Apart.{Place, At, IsJoined, IsApart}
 use Rattle.campl_meaning.specs.Lawful.{Channels, seen, IsInPhase, service_side, own_chan, taking, phase_type}
 use Rattle.campl_progress.proofs.Waits.{IsWaiting, Waits}
 use Rattle.campl_progress.proofs.Acts.{IsReceipt, Answers}
+use Rattle.campl_types.specs.Values.{IsValue}
 
 -- a list of characters is a text
-text-of : (w : World) (u : Tree) → IsOf w u (q.List q.Char) → (cs : List ℕ) × (chars_of u ≡ Some cs)
+text-of : (w : World) (u : Tree) → IsValue w u (q.List q.Char) → (cs : List ℕ) × (chars_of u ≡ Some cs)
 text-of w Nil h = ([], refl)
 text-of w (Cell (Char c) rest) (h, k) = let (cs, e) = text-of w rest k in (c ∷ cs, ap (option_map (λ ds. c ∷ ds)) e)
 text-of w (Cell (Int n) rest) (h, k) = absurd h

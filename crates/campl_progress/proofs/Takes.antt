@@ -7,11 +7,11 @@ use Rattle.campl_tree.specs.Plain.Process as b
 use Rattle.campl_tree.specs.Plain.Process.{Body}
 use Rattle.campl_types.specs.Names.{found}
 use Rattle.campl_types.specs.World.{World, world_of, process_named}
-use Rattle.campl_soundness.specs.Evaluation.{Answer, Deep, value_of, values_of}
+use Rattle.campl_evaluation.specs.Evaluation.{Answer, Deep, value_of, values_of}
 use Rattle.campl_peel.specs.Terms.{Term, Doing, Plugging}
 use Rattle.campl_meaning.specs.Bodies.{handed, both_ends}
 use Rattle.campl_types.specs.Views.{View}
-use Rattle.campl_soundness.proofs.Declared.{typed-world}
+use Rattle.campl_evaluation.proofs.Declared.{typed-world}
 use Rattle.campl_meaning.specs.States.{Message, Running, State, Runs, Serves, Kind, Command}
 use Rattle.campl_meaning.specs.Wants.{wants, with_found, with_answer, next_command, term_command}
 use Rattle.campl_meaning.specs.Reductions.{Configuration, Event, act_of, event_of, reduce}

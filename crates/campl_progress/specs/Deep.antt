@@ -3,7 +3,7 @@ use Rattle.std.specs.Prelude.{◌≡◌, ℕ}
 use Rattle.campl_tree.specs.Plain.Process as b
 use Rattle.campl_tree.specs.Plain.Process.{Body}
 use Rattle.campl_types.specs.World.{World}
-use Rattle.campl_soundness.specs.Evaluation.{Answer, Deep, Wrong, value_of, values_of}
+use Rattle.campl_evaluation.specs.Evaluation.{Answer, Deep, Wrong, value_of, values_of}
 use Rattle.campl_peel.specs.Terms.{Term, Doing, Plugging}
 use Rattle.campl_meaning.specs.States.{Running}
 

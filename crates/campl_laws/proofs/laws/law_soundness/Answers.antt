@@ -1,4 +1,4 @@
-use Rattle.campl_soundness.proofs.Sources.{source-is-sound}
+use Rattle.campl_evaluation.proofs.Sources.{source-is-sound}
 use Rattle.campl_laws.proofs.laws.law_soundness.Goals as goal
 
 pub returns : goal.returns

@@ -1,5 +1,5 @@
 -- What a pattern that fits a type binds, where a value of the type matches it, are values of the types.
-use Rattle.std.proofs.Common.{◌≡◌, ◌∙◌, refl, sym, ap, subst, ℕ, suc, Bool, true, false, List, [], ◌∷◌, ◌++◌, Option, Some, None, if◌then◌else◌, eqb, eqb-true, map, length, slice_get, is_some, true≢false}
+use Rattle.std.proofs.Common.{◌≡◌, ◌∙◌, refl, sym, ap, subst, ℕ, suc, Bool, true, false, List, [], ◌∷◌, ◌++◌, Option, Some, None, if◌then◌else◌, eqb, eqb-true, map, length, slice_get}
 use Rattle.std.specs.Ordering.{int_eq}
 use Rattle.campl_tree.specs.declared.place.Place.{Place}
 use Rattle.campl_tree.specs.declared.place.Ident.{Ident}
@@ -15,16 +15,15 @@ use Rattle.campl_types.proofs.Names.{same-is}
 use Rattle.campl_types.specs.Forms as form
 use Rattle.campl_types.specs.Forms.{Form, Forms, form_of, part_forms, element_forms, text_form}
 use Rattle.campl_types.specs.Substitution.{Filling, filled, all_filled, list_of}
-use Rattle.campl_types.specs.Values.{parts_at}
+use Rattle.campl_types.specs.Values.{parts_at, IsValue, AreValues, AllAreValues}
 use Rattle.campl_types.specs.Fits.{Vars, fits, each_fits, all_fit}
 use Rattle.campl_types.specs.Fits as fits
-use Rattle.campl_types.specs.Matching.{Bindings, both, where_holds, matched, all_matched, row_matched, first_match, next_row, number_of, is_number}
-use Rattle.campl_types.specs.Missing.{Row}
+use Rattle.campl_types.specs.Matching.{Bindings, both, where_holds, matched, all_matched, row_matched, number_of, is_number}
 use Rattle.campl_types.specs.World.{World, ConstructorEntry, OfData, OfProtocol, OfCoprotocol, constructor_named, data_named, names_of}
-use Rattle.campl_soundness.specs.Typed.{IsOf, AreOf, AllAreOf, AreBound}
-use Rattle.campl_soundness.specs.Worlds.{IsSoundWorld}
-use Rattle.campl_soundness.proofs.Instance.{parts-of}
-use Rattle.campl_soundness.proofs.Compose.{filled-list, length-filled, list-composed}
+use Rattle.campl_evaluation.specs.Typed.{AreBound}
+use Rattle.campl_evaluation.specs.Worlds.{IsSoundWorld}
+use Rattle.campl_evaluation.proofs.Instance.{parts-of}
+use Rattle.campl_evaluation.proofs.Compose.{filled-list, length-filled, list-composed}
 
 -- Bindings
 
@@ -35,15 +34,15 @@ bound-append w f [] cs (v ∷ vs) us i j = absurd i
 bound-append w f (b ∷ bs) cs [] us i j = absurd i
 
 -- a variable stands for a value of its type
-pub bound-found : (w : World) (f : Filling) (x : Name) (bs : Bindings) (vs : Vars) (t : SeqType) → AreBound w f bs vs → found x vs ≡ Some t → (a : Tree) × (found x bs ≡ Some a) × IsOf w a (filled f t)
+pub bound-found : (w : World) (f : Filling) (x : Name) (bs : Bindings) (vs : Vars) (t : SeqType) → AreBound w f bs vs → found x vs ≡ Some t → (a : Tree) × (found x bs ≡ Some a) × IsValue w a (filled f t)
 bound-found w f x [] [] t i j = absurd (cc j)
 bound-found w f x (b ∷ bs) (v ∷ vs) t (e, h, i) j = go (same_name x v.0) refl (bound-found w f x bs vs t i)
   where
-    go : (c : Bool) → same_name x v.0 ≡ c → (found x vs ≡ Some t → (a : Tree) × (found x bs ≡ Some a) × IsOf w a (filled f t)) → (a : Tree) × (found x (b ∷ bs) ≡ Some a) × IsOf w a (filled f t)
+    go : (c : Bool) → same_name x v.0 ≡ c → (found x vs ≡ Some t → (a : Tree) × (found x bs ≡ Some a) × IsValue w a (filled f t)) → (a : Tree) × (found x (b ∷ bs) ≡ Some a) × IsValue w a (filled f t)
     go true k later =
         let same : v.1 ≡ t = cc (rw k at j) in
         let hit : same_name x b.0 ≡ true = subst (λ y. same_name x y ≡ true) (sym e) k in
-        (b.1, rw hit refl, subst (λ u. IsOf w b.1 (filled f u)) same h)
+        (b.1, rw hit refl, subst (λ u. IsValue w b.1 (filled f u)) same h)
     go false k later =
         let r = later (rw k at j) in
         let miss : same_name x b.0 ≡ false = subst (λ y. same_name x y ≡ false) (sym e) k in
@@ -99,8 +98,8 @@ when false o x i = absurd (cc i)
 -- the value of a constructor's pattern is built by the constructor
 built-parts : (w : World) → IsSoundWorld w → (x : Name) (d : DataDecl) (n m : ℕ) (k : DataConstructor) (y : Name) (us : List SeqType) (vs : Trees)
     → constructor_named w x ≡ Some (OfData d n k) → same_name d.name.name y ≡ true → is_number (number_of w x) m ≡ true
-    → ((e : DataDecl) × (j : DataConstructor) × (data_named w y ≡ Some e) × (slice_get e.constructors m ≡ Some j) × (length us ≡ length e.parameters) × AreOf w vs (parts_at e us j))
-    → (length us ≡ length d.parameters) × AreOf w vs (parts_at d us k)
+    → ((e : DataDecl) × (j : DataConstructor) × (data_named w y ≡ Some e) × (slice_get e.constructors m ≡ Some j) × (length us ≡ length e.parameters) × AreValues w vs (parts_at e us j))
+    → (length us ≡ length d.parameters) × AreValues w vs (parts_at d us k)
 built-parts w sound x d n m k y us vs i named number (e, j, a, b, l, h) =
     let t = sound.types x d n k i in
     let same : d.name.name ≡ y = same-is d.name.name y named in
@@ -111,7 +110,7 @@ built-parts w sound x d n m k y us vs i named number (e, j, a, b, l, h) =
     let there : slice_get d.constructors m ≡ Some k = subst (λ z. slice_get d.constructors z ≡ Some k) place t.1 in
     let here : slice_get d.constructors m ≡ Some j = subst (λ z. slice_get z.constructors m ≡ Some j) decl b in
     let con : j ≡ k = cc (sym here ∙ there) in
-    (subst (λ z. length us ≡ length z.parameters) decl l, subst (λ z. AreOf w vs (parts_at d us z)) con (subst (λ z. AreOf w vs (parts_at z us j)) decl h))
+    (subst (λ z. length us ≡ length z.parameters) decl l, subst (λ z. AreValues w vs (parts_at d us z)) con (subst (λ z. AreValues w vs (parts_at z us j)) decl h))
 
 pub names-long : (xs : List Ident) → length (names_of xs) ≡ length xs
 names-long [] = refl
@@ -123,8 +122,8 @@ pub parts-filled : (w : World) → IsSoundWorld w → (f : Filling) (x : Name) (
 parts-filled w sound f x d n k ts i l = list-composed f (names_of d.parameters) ts (l ∙ sym (names-long d.parameters)) k.parts (sound.parts x d n k i)
 
 built-bound : (w : World) → IsSoundWorld w → (f : Filling) (at : Place) (x : Name) (ps : Patterns) (there : Place) (y : Name) (ts : SeqTypes) (m : ℕ) (vs : Trees) (xs : Vars) (bs : Bindings)
-    → fits w (Constructor at x ps) (s.Named there y ts) ≡ Some xs → matched w (form_of (Constructor at x ps)) (v.Built m vs) ≡ Some bs → IsOf w (v.Built m vs) (filled f (s.Named there y ts))
-    → ((us : List SeqType) → all_fit w ps us ≡ Some xs → all_matched w (part_forms ps) vs ≡ Some bs → AreOf w vs (map (filled f) us) → AreBound w f bs xs)
+    → fits w (Constructor at x ps) (s.Named there y ts) ≡ Some xs → matched w (form_of (Constructor at x ps)) (v.Built m vs) ≡ Some bs → IsValue w (v.Built m vs) (filled f (s.Named there y ts))
+    → ((us : List SeqType) → all_fit w ps us ≡ Some xs → all_matched w (part_forms ps) vs ≡ Some bs → AreValues w vs (map (filled f) us) → AreBound w f bs xs)
     → AreBound w f bs xs
 built-bound w sound f at x ps there y ts m vs xs bs i j h parts = go (constructor_named w x) refl
   where
@@ -136,8 +135,8 @@ built-bound w sound f at x ps there y ts m vs xs bs i j h parts = go (constructo
         let args = filled-list f ts in
         let b = built-parts w sound x d n m k y (list_of (all_filled f ts)) vs e fit.0 hit.0 h in
         let long : length (list_of ts) ≡ length d.parameters = sym (length-filled f (list_of ts)) ∙ ap length (sym args) ∙ b.0 in
-        let typed : AreOf w vs (parts_at d (map (filled f) (list_of ts)) k) = subst (λ us. AreOf w vs (parts_at d us k)) args b.1 in
-        parts (parts_at d (list_of ts) k) fit.1 hit.1 (subst (AreOf w vs) (sym (parts-filled w sound f x d n k (list_of ts) e long)) typed)
+        let typed : AreValues w vs (parts_at d (map (filled f) (list_of ts)) k) = subst (λ us. AreValues w vs (parts_at d us k)) args b.1 in
+        parts (parts_at d (list_of ts) k) fit.1 hit.1 (subst (AreValues w vs) (sym (parts-filled w sound f x d n k (list_of ts) e long)) typed)
     go (Some (OfProtocol d n k)) e = absurd (cc (rw e at i))
     go (Some (OfCoprotocol d n k)) e = absurd (cc (rw e at i))
     go None e = absurd (cc (rw e at i))
@@ -149,7 +148,7 @@ none-some x i = cc i
 
 mutual
   pub fit-bound : (w : World) → IsSoundWorld w → (f : Filling) (p : Pattern) (t : SeqType) (a : Tree) (xs : Vars) (bs : Bindings)
-      → fits w p t ≡ Some xs → matched w (form_of p) a ≡ Some bs → IsOf w a (filled f t) → AreBound w f bs xs
+      → fits w p t ≡ Some xs → matched w (form_of p) a ≡ Some bs → IsValue w a (filled f t) → AreBound w f bs xs
   fit-bound w sound f (Wildcard at) t a xs bs i j h = bound-none w f bs xs (cc j) i
   fit-bound w sound f (Variable at x) t a xs bs i j h =
       let k : (x, a) ∷ [] ≡ bs = cc j in let l : (x, t) ∷ [] ≡ xs = cc i in
@@ -180,7 +179,7 @@ mutual
   fit-bound w sound f p t a xs bs i j h = absurd (none-some xs i)
 
   each-bound : (w : World) → IsSoundWorld w → (f : Filling) (ps : Patterns) (t : SeqType) (a : Tree) (xs : Vars) (bs : Bindings)
-      → each_fits w ps t ≡ Some xs → matched w (element_forms ps) a ≡ Some bs → IsOf w a (s.List (filled f t)) → AreBound w f bs xs
+      → each_fits w ps t ≡ Some xs → matched w (element_forms ps) a ≡ Some bs → IsValue w a (s.List (filled f t)) → AreBound w f bs xs
   each-bound w sound f no_patterns t v.Nil xs bs i j h = bound-none w f bs xs (cc j) i
   each-bound w sound f (pattern_then p ps) t (v.Cell a b) xs bs i j (h, k) =
       bound-both w f (fits w p t) (each_fits w ps t) xs (matched w (form_of p) a) (matched w (element_forms ps) b) bs i j
@@ -188,7 +187,7 @@ mutual
   each-bound w sound f ps t a xs bs i j h = absurd (none-some bs j)
 
   pub all-bound : (w : World) → IsSoundWorld w → (f : Filling) (ps : Patterns) (ts : List SeqType) (vs : Trees) (xs : Vars) (bs : Bindings)
-      → all_fit w ps ts ≡ Some xs → all_matched w (part_forms ps) vs ≡ Some bs → AreOf w vs (map (filled f) ts) → AreBound w f bs xs
+      → all_fit w ps ts ≡ Some xs → all_matched w (part_forms ps) vs ≡ Some bs → AreValues w vs (map (filled f) ts) → AreBound w f bs xs
   all-bound w sound f no_patterns [] v.none xs bs i j h = bound-none w f bs xs (cc j) i
   all-bound w sound f (pattern_then p ps) (t ∷ ts) (v.more a vs) xs bs i j (h, k) =
       bound-both w f (fits w p t) (all_fit w ps ts) xs (matched w (form_of p) a) (all_matched w (part_forms ps) vs) bs i j
@@ -207,36 +206,14 @@ row-parts w (form.more p ps) [] = refl
 
 -- what a function's row binds
 pub row-bound : (w : World) → IsSoundWorld w → (f : Filling) (ps : Patterns) (ts : List SeqType) (vs : List Tree) (xs : Vars) (bs : Bindings)
-    → all_fit w ps ts ≡ Some xs → row_matched w (form.list_of (part_forms ps)) vs ≡ Some bs → AllAreOf w vs (map (filled f) ts) → AreBound w f bs xs
+    → all_fit w ps ts ≡ Some xs → row_matched w (form.list_of (part_forms ps)) vs ≡ Some bs → AllAreValues w vs (map (filled f) ts) → AreBound w f bs xs
 row-bound w sound f ps ts vs xs bs i j h = all-bound w sound f ps ts (trees_of vs) xs bs i (sym (row-parts w (part_forms ps) vs) ∙ j) (parts-of w vs (map (filled f) ts) h)
 
 -- and a row of one pattern
 pub one-bound : (w : World) → IsSoundWorld w → (f : Filling) (p : Pattern) (t : SeqType) (a : Tree) (xs : Vars) (bs : Bindings)
-    → fits w p t ≡ Some xs → row_matched w (form_of p ∷ []) (a ∷ []) ≡ Some bs → IsOf w a (filled f t) → AreBound w f bs xs
+    → fits w p t ≡ Some xs → row_matched w (form_of p ∷ []) (a ∷ []) ≡ Some bs → IsValue w a (filled f t) → AreBound w f bs xs
 one-bound w sound f p t a xs bs i j h =
     let r = both-match (matched w (form_of p) a) (Some []) bs j in
     let e : [] ≡ r.1 = cc r.3 in
     let k : r.0 ≡ bs = (λ n. e n ++ r.0) ∙ r.4 in
     subst (λ c. AreBound w f c xs) k (fit-bound w sound f p t a xs r.0 i r.2 h)
-
-next-some : (o : Option (ℕ × Bindings)) → is_some (next_row o) ≡ true → is_some o ≡ true
-next-some None i = i
-next-some (Some r) i = refl
-
-next-chosen : (w : World) (row : Row) (rows : List Row) (vs : List Tree) → row_matched w row vs ≡ None
-    → ((r : ℕ × Bindings) × (first_match w rows vs ≡ Some r) × (q : Row) × (slice_get rows r.0 ≡ Some q) × (row_matched w q vs ≡ Some r.1))
-    → (r : ℕ × Bindings) × (first_match w (row ∷ rows) vs ≡ Some r) × (q : Row) × (slice_get (row ∷ rows) r.0 ≡ Some q) × (row_matched w q vs ≡ Some r.1)
-next-chosen w row rows vs e (r, a, q, b, c) = ((suc r.0, r.1), rw (e, a) refl, q, b, c)
-
--- the row that is chosen
-pub chosen : (w : World) (rows : List Row) (vs : List Tree) → is_some (first_match w rows vs) ≡ true
-    → (r : ℕ × Bindings) × (first_match w rows vs ≡ Some r) × (row : Row) × (slice_get rows r.0 ≡ Some row) × (row_matched w row vs ≡ Some r.1)
-chosen w [] vs i = absurd (true≢false (sym i))
-chosen w (row ∷ rows) vs i = go (row_matched w row vs) refl (chosen w rows vs)
-  where
-    go : (o : Option Bindings) → row_matched w row vs ≡ o → (is_some (first_match w rows vs) ≡ true → (r : ℕ × Bindings) × (first_match w rows vs ≡ Some r) × (row : Row) × (slice_get rows r.0 ≡ Some row) × (row_matched w row vs ≡ Some r.1))
-        → (r : ℕ × Bindings) × (first_match w (row ∷ rows) vs ≡ Some r) × (q : Row) × (slice_get (row ∷ rows) r.0 ≡ Some q) × (row_matched w q vs ≡ Some r.1)
-    go (Some xs) e later = ((0, xs), rw e refl, row, refl, e)
-    go None e later =
-        let m : is_some (next_row (first_match w rows vs)) ≡ true = rw e at i in
-        next-chosen w row rows vs e (later (next-some (first_match w rows vs) m))

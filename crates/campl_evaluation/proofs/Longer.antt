@@ -12,8 +12,8 @@ use Rattle.campl_types.specs.Names.{Name, found}
 use Rattle.campl_types.specs.World.{World, function_named}
 use Rattle.campl_types.specs.Matching.{Bindings, first_match, number_of}
 use Rattle.campl_types.specs.Sequential.{expr_rows, function_rows}
-use Rattle.campl_soundness.specs.Evaluation.{Answer, Done, Deep, Wrong, More, and_then, made, given, truth, int, char, Caller, value, values, row_value, body_value, calls, value_of}
-use Rattle.campl_soundness.specs.Budget.{Longer}
+use Rattle.campl_evaluation.specs.Evaluation.{Answer, Done, Deep, Wrong, More, and_then, made, given, truth, int, char, Caller, value, values, row_value, body_value, calls, value_of}
+use Rattle.campl_evaluation.specs.Budget.{Longer}
 
 longer-then : {A B : Type 0} (r s : Answer A) (next later : A → ℕ → Answer B) → Longer r s → ((a : A) (n : ℕ) → Longer (next a n) (later a (suc n))) → Longer (and_then r next) (and_then s later)
 longer-then (Done a n) s next later h step = rw h (step a n)

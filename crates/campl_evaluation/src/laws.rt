@@ -9,16 +9,17 @@ ghost use Rattle.campl_types.specs.Sequential.{Way, HasType};
 ghost use Rattle.campl_types.specs.Substitution.{Filling, filled};
 ghost use Rattle.campl_types.specs.Typed.{IsTyped};
 ghost use Rattle.campl_types.specs.World.{World, world_of};
-ghost use Rattle.campl_soundness.specs.Evaluation.{value_of};
-ghost use Rattle.campl_soundness.specs.Typed.{AreBound, Fine, IsOf};
-ghost use Rattle.campl_soundness.specs.Budget.{Longer};
+ghost use Rattle.campl_evaluation.specs.Evaluation.{value_of};
+ghost use Rattle.campl_evaluation.specs.Typed.{AreBound, Fine};
+ghost use Rattle.campl_evaluation.specs.Budget.{Longer};
+ghost use Rattle.campl_types.specs.Values.{IsValue};
 
 /// In a typed source, at each filling of type variables: where an expression has a type under variables that
 /// stand for values of their filled types, its evaluation is never wrong, and its value is of the filled type.
 pub fn law_soundness()
     ensures { (source : Program) → IsTyped source → (way : Way) (f : Filling) (vs : Vars) (a : Expr) (t : SeqType) (variables : Bindings) (n : ℕ)
         → AreBound (world_of source) f variables vs → HasType way (world_of source) vs a t
-        → Fine (λ v. IsOf (world_of source) v (filled f t)) (value_of (world_of source) a variables n) }
+        → Fine (λ v. IsValue (world_of source) v (filled f t)) (value_of (world_of source) a variables n) }
 {}
 
 /// With one more call allowed, an evaluation that ends goes the same, with one more call left.

@@ -5,19 +5,19 @@ use Rattle.campl_tree.specs.Plain.SeqType.{SeqType, SeqTypes, no_types, type_the
 use Rattle.campl_tree.specs.Plain.SeqType as s
 use Rattle.campl_tree.specs.Plain.Decl.{DataDecl, DataConstructor}
 use Rattle.campl_value.specs.Tree.{Tree, built, trees_of}
-use Rattle.campl_types.specs.Names.{Name, same_name, is_among, found}
+use Rattle.campl_types.specs.Names.{Name, same_name, is_among, found, Within}
 use Rattle.campl_types.proofs.Names.{same-itself, split-names}
 use Rattle.campl_types.specs.Substitution.{Filling, filling, filled, all_filled, variables_of, variables_of_all, list_of, types_of}
 use Rattle.campl_types.specs.SameType.{nowhere}
 use Rattle.campl_types.specs.Sequential.{whole}
-use Rattle.campl_types.specs.Values.{parts_at}
+use Rattle.campl_types.specs.Values.{parts_at, IsValue, AreValues, AllAreValues}
 use Rattle.campl_types.specs.World.{World, OfData, constructor_named, names_of, variables_of_list}
-use Rattle.campl_soundness.specs.Typed.{IsOf, AreOf, AllAreOf}
-use Rattle.campl_soundness.specs.Worlds.{Within, IsSoundWorld}
-use Rattle.campl_soundness.proofs.Among.{or-first, within-left, within-right}
-use Rattle.campl_soundness.proofs.Compose.{all-composed, list-composed, length-filled}
-use Rattle.campl_soundness.proofs.Instance.{parts-of}
-use Rattle.campl_soundness.proofs.Bound.{names-long}
+use Rattle.campl_evaluation.specs.Worlds.{IsSoundWorld}
+use Rattle.campl_evaluation.proofs.Compose.{all-composed, list-composed, length-filled}
+use Rattle.campl_evaluation.proofs.Instance.{parts-of}
+use Rattle.campl_evaluation.proofs.Bound.{names-long}
+use Rattle.campl_types.proofs.Truth.{or-first}
+use Rattle.campl_types.proofs.Among.{within-left, within-right}
 
 abbrev variables : List Name → SeqTypes
 variables xs = types_of (map (Variable nowhere) xs)
@@ -99,8 +99,8 @@ module _ (ps : List Name) (ts : List SeqType) (long : length ts ≡ length ps) w
 -- parts of the filled types build a value of the filled whole
 pub built-is : (w : World) → IsSoundWorld w → (f : Filling) (x : Name) (d : DataDecl) (n : ℕ) (k : DataConstructor) (ts : List SeqType) (us : List Tree)
     → constructor_named w x ≡ Some (OfData d n k) → length ts ≡ length (names_of d.parameters)
-    → AllAreOf w us (map (filled f) (map (filled (filling (names_of d.parameters) ts)) k.parts))
-    → IsOf w (built n us) (filled f (filled (filling (names_of d.parameters) ts) (whole d)))
+    → AllAreValues w us (map (filled f) (map (filled (filling (names_of d.parameters) ts)) k.parts))
+    → IsValue w (built n us) (filled f (filled (filling (names_of d.parameters) ts) (whole d)))
 built-is w good f x d n k ts us i long h =
     let ps : List Name = names_of d.parameters in
     let more : List SeqType = map (filled f) ts in
@@ -116,5 +116,5 @@ built-is w good f x d n k ts us i long h =
       known.0,
       known.1,
       ap length list ∙ stand-long (filling ps more) ps ∙ names-long d.parameters,
-      subst (λ ys. AreOf w (trees_of us) (parts_at d ys k)) (sym list) (parts-of w us _ (subst (AllAreOf w us) parts h)),
+      subst (λ ys. AreValues w (trees_of us) (parts_at d ys k)) (sym list) (parts-of w us _ (subst (AllAreValues w us) parts h)),
     )

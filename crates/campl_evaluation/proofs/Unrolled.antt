@@ -12,7 +12,7 @@ use Rattle.campl_types.specs.Names.{Name, found}
 use Rattle.campl_types.specs.World.{World, function_named}
 use Rattle.campl_types.specs.Matching.{Bindings, first_match, number_of}
 use Rattle.campl_types.specs.Sequential.{expr_rows, function_rows}
-use Rattle.campl_soundness.specs.Evaluation.{Answer, Done, Deep, Wrong, More, and_then, made, given, truth, int, char, Caller, value, values, row_value, body_value, calls, value_of}
+use Rattle.campl_evaluation.specs.Evaluation.{Answer, Done, Deep, Wrong, More, and_then, made, given, truth, int, char, Caller, value, values, row_value, body_value, calls, value_of}
 
 -- the calls that are left are at most so many
 abbrev AtMost : {A : Type 0} → ℕ → Answer A → Type 0

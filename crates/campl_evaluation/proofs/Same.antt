@@ -8,7 +8,7 @@ use Rattle.campl_types.specs.Names.{Name, same_name, found}
 use Rattle.campl_types.specs.SameType.{nowhere, bare, all_bare, IsSame}
 use Rattle.campl_types.specs.Substitution.{Filling, filling, filled, all_filled, list_of}
 use Rattle.campl_types.specs.World.{World, names_of, data_named}
-use Rattle.campl_soundness.specs.Typed.{IsOf, AreOf}
+use Rattle.campl_types.specs.Values.{IsValue, AreValues}
 
 -- Places in what is filled
 
@@ -87,7 +87,7 @@ same-length : (ts us : SeqTypes) → all_bare ts ≡ all_bare us → length (lis
 same-length ts us i = sym (bare-length us) ∙ ap (λ vs. length (list_of vs)) (sym i) ∙ bare-length ts
 
 mutual
-  pub of-same : (w : World) (v : Tree) (t u : SeqType) → IsSame t u → IsOf w v t → IsOf w v u
+  pub of-same : (w : World) (v : Tree) (t u : SeqType) → IsSame t u → IsValue w v t → IsValue w v u
   of-same w v (Variable at x) (Variable there y) i h = tt
   of-same w (Int n) s.Int s.Int i h = tt
   of-same w (Char n) s.Char s.Char i h = tt
@@ -108,7 +108,7 @@ mutual
   of-same w v t u i h = absurd (cc i)
 
   all-of-same : (w : World) (vs : Trees) (xs : List Name) (ts us : SeqTypes) → all_bare ts ≡ all_bare us → (ps : List SeqType)
-      → AreOf w vs (map (filled (filling xs (list_of ts))) ps) → AreOf w vs (map (filled (filling xs (list_of us))) ps)
+      → AreValues w vs (map (filled (filling xs (list_of ts))) ps) → AreValues w vs (map (filled (filling xs (list_of us))) ps)
   all-of-same w none xs ts us i [] h = tt
   all-of-same w (more v vs) xs ts us i (p ∷ ps) (h, k) =
       (of-same w v (filled (filling xs (list_of ts)) p) (filled (filling xs (list_of us)) p) (part-same xs ts us i p) h, all-of-same w vs xs ts us i ps k)
@@ -116,5 +116,5 @@ mutual
   all-of-same w (more v vs) xs ts us i [] h = absurd h
 
 -- a value of what a type is filled to, at a type that is the same
-pub of-filled : (w : World) (v : Tree) (f : Filling) (t u : SeqType) → IsSame t u → IsOf w v (filled f u) → IsOf w v (filled f t)
+pub of-filled : (w : World) (v : Tree) (f : Filling) (t u : SeqType) → IsSame t u → IsValue w v (filled f u) → IsValue w v (filled f t)
 of-filled w v f t u i h = of-same w v (filled f u) (filled f t) (sym (filled-same f t u i)) h

@@ -1,5 +1,5 @@
 -- Evaluations that compute.
-use Rattle.std.proofs.Common.{◌≡◌, refl, sym, subst, true, ℕ, length, arith, pos, [], ◌∷◌, List, codes}
+use Rattle.std.proofs.Common.{◌≡◌, refl, ℕ, pos, [], ◌∷◌, List, codes}
 use Rattle.campl_tree.specs.declared.place.Ident.{Ident}
 use Rattle.campl_tree.specs.declared.expr.Arithmetic.TheVariants as op
 use Rattle.campl_tree.specs.Plain.SeqType as s
@@ -9,12 +9,9 @@ use Rattle.campl_tree.specs.Plain.Decl as d
 use Rattle.campl_value.specs.Tree as v
 use Rattle.campl_types.specs.SameType.{nowhere}
 use Rattle.campl_types.specs.Names.{Name}
-use Rattle.campl_types.specs.Substitution.{Filling, filled}
-use Rattle.campl_types.specs.Values.{IsValue}
-use Rattle.campl_types.specs.Sequential.{HasType, Checked, RowIsTyped}
+use Rattle.campl_types.specs.Sequential.{RowIsTyped}
 use Rattle.campl_types.specs.World.{World, world_of}
-use Rattle.campl_soundness.specs.Typed.{IsOf}
-use Rattle.campl_soundness.specs.Evaluation.{Done, Wrong, More, value_of}
+use Rattle.campl_evaluation.specs.Evaluation.{Done, Wrong, More, value_of}
 
 abbrev ident : Name → Ident
 ident x = record { place = nowhere; name = x }
@@ -101,45 +98,3 @@ no-row = refl
 -- a polymorphic recursion has its type
 recursion : RowIsTyped w depth deeper
 recursion = ((codes "n", nest (s.Pair a a)) ∷ [], refl, refl, (refl, refl, (depth, refl, (s.Pair a a ∷ [], refl, refl, ((nest (s.Pair a a), refl, refl), tt), tt))))
-
--- Why a value's data type must stand with as many arguments as it has parameters: without that, of x : Maybe with no
--- argument and a filled by Int, `case x of Just(y) -> y` has the type a, and its value is True
-abbrev maybe : d.DataDecl
-maybe =
-    record {
-      place = nowhere;
-      name = ident (codes "Maybe");
-      parameters = ident (codes "a") ∷ [];
-      constructors = constructor (codes "Just") (a ∷ []) ∷ [];
-    }
-
-abbrev maybes : World
-maybes = world_of (d.Data maybe ∷ [])
-
-abbrev bare_maybe : s.SeqType
-bare_maybe = s.Named nowhere (codes "Maybe") s.no_types
-
-abbrev looks : e.Expr
-looks = e.Case nowhere (x (codes "x")) (e.expr_row_then (p.Constructor nowhere (codes "Just") (p.pattern_then (p.Variable nowhere (codes "y")) p.no_patterns)) (x (codes "y")) e.no_expr_rows)
-
-abbrev just_true : v.Tree
-just_true = v.Built 0 (v.more (v.Truth true) v.none)
-
-abbrev int_for_a : Filling
-int_for_a = (codes "a", s.Int) ∷ []
-
-has-type : HasType Checked maybes ((codes "x", bare_maybe) ∷ []) looks a
-has-type = (bare_maybe, (bare_maybe, refl, refl), ((codes "y", a) ∷ [], refl, refl, (a, refl, refl), tt), refl)
-
-is-value : IsValue maybes just_true (filled int_for_a bare_maybe)
-is-value = (_, _, refl, refl, (tt, tt))
-
-is-true : value_of maybes looks ((codes "x", just_true) ∷ []) 0 ≡ Done (v.Truth true) 0
-is-true = refl
-
-is-no-value : IsValue maybes (v.Truth true) (filled int_for_a a) → ⊥
-is-no-value h = h
-
--- so it is no value with the count
-is-none : IsOf maybes just_true (filled int_for_a bare_maybe) → ⊥
-is-none (d, k, i, j, l, h) = let e : maybe ≡ d = cc i in let m : 0 ≡ 1 = subst (λ y. 0 ≡ length y.parameters) (sym e) l in absurd (omega (arith, m))

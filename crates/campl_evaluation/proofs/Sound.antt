@@ -1,72 +1,38 @@
 -- An expression of a type, under variables that stand for values of their types, is never wrong, and its
 -- value is of the type.
-use Rattle.std.proofs.Common.{◌≡◌, refl, sym, ap, subst, ℕ, zero, suc, pos, option_map, Bool, true, false, List, [], ◌∷◌, ◌++◌, Option, Some, None, if◌then◌else◌, map, length, slice_get}
+use Rattle.std.proofs.Common.{◌≡◌, sym, ap, subst, ℕ, zero, suc, pos, option_map, Bool, true, false, List, [], ◌∷◌, ◌++◌, Some, if◌then◌else◌, map, length, slice_get}
 use Rattle.std.specs.Int.{w64, int_wrapping_neg}
 use Rattle.campl_tree.specs.Plain.SeqType.{SeqType, SeqTypes}
 use Rattle.campl_tree.specs.Plain.SeqType as s
 use Rattle.campl_tree.specs.Plain.Expr as e
 use Rattle.campl_tree.specs.Plain.Expr.{Expr, Exprs, ExprRows}
-use Rattle.campl_tree.specs.Plain.Pattern.{Patterns, no_patterns, pattern_then}
 use Rattle.campl_tree.specs.Plain.Decl.{FunctionDecl, FunctionRow}
 use Rattle.campl_value.specs.Tree.{Tree, Int, Char, Truth, Nil, Cell, Pair, built}
 use Rattle.campl_value.specs.Text.{text_of}
 use Rattle.campl_value.specs.List.{in_front, appended}
 use Rattle.campl_value.specs.Compare.{compared}
-use Rattle.campl_types.specs.Names.{Name, found}
+use Rattle.campl_types.specs.Names.{Name, found, Within}
 use Rattle.campl_types.specs.Substitution.{Filling, filling, filled, variables_of}
 use Rattle.campl_types.specs.SameType.{IsSame}
 use Rattle.campl_types.specs.Forms as form
 use Rattle.campl_types.specs.Forms.{form_of, part_forms}
-use Rattle.campl_types.specs.Fits.{Vars, fits, all_fit}
-use Rattle.campl_types.specs.Fits as fits
-use Rattle.campl_types.specs.Matching.{Bindings, first_match, row_matched, number_of}
+use Rattle.campl_types.specs.Fits.{Vars}
+use Rattle.campl_types.specs.Matching.{Bindings, SomeRowMatches, first_match, row_matched, number_of}
 use Rattle.campl_types.specs.Missing.{Row}
 use Rattle.campl_types.specs.Sequential.{Way, Found, Checked, HasType, PartsHaveTypes, AllChecked, RowsHaveType, whole, expr_rows, function_rows, AreExhaustive, FunctionIsTyped, RowIsTyped}
 use Rattle.campl_types.specs.World.{World, number_in, function_named, names_of, type_parameters, variables_of_list}
-use Rattle.campl_types.proofs.Missing.{nothing-missing, AsLong, AllAsLong}
-use Rattle.campl_soundness.specs.Evaluation.{Answer, Done, Deep, Wrong, More, and_then, truth, int, char, holds, calculated, char_of, Caller, value, values, row_value, body_value, calls, value_of}
-use Rattle.campl_soundness.specs.Typed.{IsOf, AllAreOf, AreBound, Fine, CallerIsSound}
-use Rattle.campl_soundness.specs.Worlds.{Within, IsSoundWorld}
-use Rattle.campl_soundness.proofs.Among.{within-once, within-left, within-right}
-use Rattle.campl_soundness.proofs.Compose.{composed, list-composed}
-use Rattle.campl_soundness.proofs.Same.{of-filled}
-use Rattle.campl_soundness.proofs.Instance.{instance-of, instances-of}
-use Rattle.campl_soundness.proofs.Bound.{bound-append, bound-found, row-bound, one-bound, chosen}
-use Rattle.campl_soundness.proofs.Whole.{built-is}
-use Rattle.campl_soundness.proofs.Forms.{fine-then, fine-given, fine-made, is-truth, is-int, is-char, text-is, append-is, AllOf, list-is, compares}
-
--- Rows are as long as the types
-
-parts-long : (w : World) (ps : Patterns) (ts : List SeqType) (xs : Vars) → all_fit w ps ts ≡ Some xs → AsLong (form.list_of (part_forms ps)) ts
-parts-long w no_patterns [] xs i = tt
-parts-long w (pattern_then p ps) (t ∷ ts) xs i = go (fits w p t) (all_fit w ps ts) refl i (parts-long w ps ts)
-  where
-    go : (o q : Option Vars) → all_fit w ps ts ≡ q → fits.both o q ≡ Some xs → ((ys : Vars) → all_fit w ps ts ≡ Some ys → AsLong (form.list_of (part_forms ps)) ts) → AsLong (form.list_of (part_forms ps)) ts
-    go (Some ys) (Some zs) e j later = later zs e
-    go (Some ys) None e j later = absurd (cc j)
-    go None q e j later = absurd (cc j)
-parts-long w ps ts xs i = absurd (cc i)
-
-rows-long : (rows : ExprRows) (u : SeqType) → AllAsLong (expr_rows rows) (u ∷ [])
-rows-long e.no_expr_rows u = tt
-rows-long (e.expr_row_then p a rows) u = (tt, rows-long rows u)
-
--- Functions
-
-abbrev RowsAreTyped : World → FunctionDecl → List FunctionRow → Type 0
-RowsAreTyped w f [] = Unit {0}
-RowsAreTyped w f (r ∷ rows) = RowIsTyped w f r × RowsAreTyped w f rows
-
-function-long : (w : World) (f : FunctionDecl) (rows : List FunctionRow) → RowsAreTyped w f rows → AllAsLong (function_rows rows) f.parameters
-function-long w f [] h = tt
-function-long w f (r ∷ rows) ((xs, i, d, h), k) = (parts-long w r.patterns f.parameters xs i, function-long w f rows k)
-
--- a row at its place
-row-at : (w : World) (f : FunctionDecl) (rows : List FunctionRow) (n : ℕ) (q : Row) → RowsAreTyped w f rows → slice_get (function_rows rows) n ≡ Some q
-    → (r : FunctionRow) × (slice_get rows n ≡ Some r) × (form.list_of (part_forms r.patterns) ≡ q) × RowIsTyped w f r
-row-at w f [] n q h i = absurd (cc i)
-row-at w f (r ∷ rows) zero q (h, k) i = (r, refl, cc i, h)
-row-at w f (r ∷ rows) (suc n) q (h, k) i = row-at w f rows n q k i
+use Rattle.campl_types.proofs.TypedRows.{row-at, function-chooses, case-chooses}
+use Rattle.campl_evaluation.specs.Evaluation.{Answer, Done, Deep, Wrong, More, and_then, truth, int, char, holds, calculated, char_of, Caller, value, values, row_value, body_value, calls, value_of}
+use Rattle.campl_evaluation.specs.Typed.{AreBound, Fine, CallerIsSound}
+use Rattle.campl_evaluation.specs.Worlds.{IsSoundWorld}
+use Rattle.campl_evaluation.proofs.Compose.{composed, list-composed}
+use Rattle.campl_evaluation.proofs.Same.{of-filled}
+use Rattle.campl_evaluation.proofs.Instance.{instance-of, instances-of}
+use Rattle.campl_evaluation.proofs.Bound.{bound-append, bound-found, row-bound, one-bound}
+use Rattle.campl_evaluation.proofs.Whole.{built-is}
+use Rattle.campl_evaluation.proofs.Forms.{fine-then, fine-given, fine-made, is-truth, is-int, is-char, text-is, append-is, AllOf, list-is, compares}
+use Rattle.campl_types.specs.Values.{IsValue, AllAreValues}
+use Rattle.campl_types.proofs.Among.{within-once, within-left, within-right}
 
 -- Expressions
 
@@ -75,17 +41,17 @@ fine-if P true x y h k = h
 fine-if P false x y h k = k
 
 -- one value more
-fine-cons : (w : World) (t : SeqType) (r : Answer Tree) (rest : ℕ → Answer (List Tree)) → Fine (λ v. IsOf w v t) r → ((m : ℕ) → Fine (AllOf w t) (rest m))
+fine-cons : (w : World) (t : SeqType) (r : Answer Tree) (rest : ℕ → Answer (List Tree)) → Fine (λ v. IsValue w v t) r → ((m : ℕ) → Fine (AllOf w t) (rest m))
     → Fine (AllOf w t) (and_then r (λ v m. and_then (rest m) (λ vs k. Done (v ∷ vs) k)))
 fine-cons w t r rest h k =
-    fine-then (λ v. IsOf w v t) (AllOf w t) r (λ v m. and_then (rest m) (λ vs k. Done (v ∷ vs) k)) h
+    fine-then (λ v. IsValue w v t) (AllOf w t) r (λ v m. and_then (rest m) (λ vs k. Done (v ∷ vs) k)) h
     (λ v m p. fine-then (AllOf w t) (AllOf w t) (rest m) (λ vs k. Done (v ∷ vs) k) (k m) (λ vs l q. (p, q)))
 
-fine-part : (w : World) (t : SeqType) (ts : List SeqType) (r : Answer Tree) (rest : ℕ → Answer (List Tree)) → Fine (λ v. IsOf w v t) r → ((m : ℕ) → Fine (λ us. AllAreOf w us ts) (rest m))
-    → Fine (λ us. AllAreOf w us (t ∷ ts)) (and_then r (λ v m. and_then (rest m) (λ vs k. Done (v ∷ vs) k)))
+fine-part : (w : World) (t : SeqType) (ts : List SeqType) (r : Answer Tree) (rest : ℕ → Answer (List Tree)) → Fine (λ v. IsValue w v t) r → ((m : ℕ) → Fine (λ us. AllAreValues w us ts) (rest m))
+    → Fine (λ us. AllAreValues w us (t ∷ ts)) (and_then r (λ v m. and_then (rest m) (λ vs k. Done (v ∷ vs) k)))
 fine-part w t ts r rest h k =
-    fine-then (λ v. IsOf w v t) (λ us. AllAreOf w us (t ∷ ts)) r (λ v m. and_then (rest m) (λ vs k. Done (v ∷ vs) k)) h
-    (λ v m p. fine-then (λ us. AllAreOf w us ts) (λ us. AllAreOf w us (t ∷ ts)) (rest m) (λ vs k. Done (v ∷ vs) k) (k m) (λ vs l q. (p, q)))
+    fine-then (λ v. IsValue w v t) (λ us. AllAreValues w us (t ∷ ts)) r (λ v m. and_then (rest m) (λ vs k. Done (v ∷ vs) k)) h
+    (λ v m p. fine-then (λ us. AllAreValues w us ts) (λ us. AllAreValues w us (t ∷ ts)) (rest m) (λ vs k. Done (v ∷ vs) k) (k m) (λ vs l q. (p, q)))
 
 fine-weaker : (P Q : Tree → Type 0) (r : Answer Tree) → ((v : Tree) → P v → Q v) → Fine P r → Fine Q r
 fine-weaker P Q (Done v n) i h = i v h
@@ -96,27 +62,27 @@ fine-weaker P Q More i h = tt
 -- a call at types that are filled
 call-fine : (w : World) (call : Caller) → CallerIsSound w call → (f : Filling) (x : Name) (fd : FunctionDecl) (ts : List SeqType) (us : List Tree) (m : ℕ) (t : SeqType)
     → function_named w x ≡ Some fd → length ts ≡ length (type_parameters fd) → IsSame t (filled (filling (type_parameters fd) ts) fd.result)
-    → AllAreOf w us (map (filled f) (map (filled (filling (type_parameters fd) ts)) fd.parameters))
-    → Fine (λ v. IsOf w v (filled f t)) (call x us m)
+    → AllAreValues w us (map (filled f) (map (filled (filling (type_parameters fd) ts)) fd.parameters))
+    → Fine (λ v. IsValue w v (filled f t)) (call x us m)
 call-fine w call ok f x fd ts us m t i l j p =
     let ps : List Name = type_parameters fd in
     let g : Filling = filling ps (map (filled f) ts) in
     let all : Within (variables_of_list fd.parameters ++ variables_of fd.result) ps = within-once (variables_of_list fd.parameters ++ variables_of fd.result) in
     let args = list-composed f ps ts l fd.parameters (within-left (variables_of_list fd.parameters) (variables_of fd.result) ps all) in
     let result = composed f ps ts l fd.result (within-right (variables_of_list fd.parameters) (variables_of fd.result) ps all) in
-    fine-weaker (λ v. IsOf w v (filled g fd.result)) (λ v. IsOf w v (filled f t)) (call x us m)
-    (λ v h. of-filled w v f t (filled (filling ps ts) fd.result) j (subst (IsOf w v) (sym result) h))
-    (ok x fd i g us m (subst (AllAreOf w us) args p))
+    fine-weaker (λ v. IsValue w v (filled g fd.result)) (λ v. IsValue w v (filled f t)) (call x us m)
+    (λ v h. of-filled w v f t (filled (filling ps ts) fd.result) j (subst (IsValue w v) (sym result) h))
+    (ok x fd i g us m (subst (AllAreValues w us) args p))
 
 -- a `case` has a row for each value
-case-chosen : (w : World) → IsSoundWorld w → (f : Filling) (rows : ExprRows) (u : SeqType) (v : Tree) → AreExhaustive w (expr_rows rows) (u ∷ []) → IsOf w v (filled f u)
-    → (r : ℕ × Bindings) × (first_match w (expr_rows rows) (v ∷ []) ≡ Some r) × (row : Row) × (slice_get (expr_rows rows) r.0 ≡ Some row) × (row_matched w row (v ∷ []) ≡ Some r.1)
+case-chosen : (w : World) → IsSoundWorld w → (f : Filling) (rows : ExprRows) (u : SeqType) (v : Tree) → AreExhaustive w (expr_rows rows) (u ∷ []) → IsValue w v (filled f u)
+    → SomeRowMatches w (expr_rows rows) (v ∷ [])
 case-chosen w good f rows u v x p =
-    chosen w (expr_rows rows) (v ∷ []) (nothing-missing w good.constructors (expr_rows rows) (u ∷ []) (v ∷ []) (rows-long rows u) x (instance-of w v f u p, tt))
+    case-chooses w good.constructors rows u v x (instance-of w v f u p)
 
 mutual
   pub sound : (w : World) → IsSoundWorld w → (call : Caller) → CallerIsSound w call → (way : Way) (f : Filling) (vs : Vars) (a : Expr) (t : SeqType) (vars : Bindings) (n : ℕ)
-      → AreBound w f vars vs → HasType way w vs a t → Fine (λ v. IsOf w v (filled f t)) (value w call a vars n)
+      → AreBound w f vars vs → HasType way w vs a t → Fine (λ v. IsValue w v (filled f t)) (value w call a vars n)
   sound w good call ok way f vs (e.Number at x) t vars n b h = of-filled w (Int x) f t s.Int h tt
   sound w good call ok way f vs (e.Character at x) t vars n b h = of-filled w (Char x) f t s.Char h tt
   sound w good call ok way f vs (e.Text at text) t vars n b h = fine-made _ (text_of text) n (of-filled w (text_of text) f t (s.List s.Char) h (text-is w text))
@@ -129,7 +95,7 @@ mutual
       fine-then _ _ _ _ (sound w good call ok way f vs a u vars n b h)
       (λ v m p. fine-then _ _ _ _ (sound w good call ok Checked f vs c (s.List u) vars m b k)
       (λ x l q. fine-made _ (Cell v x) l (of-filled w (Cell v x) f t (s.List u) i (p, q))))
-  sound w good call ok Checked f vs (e.List at e.no_exprs) t vars n b (u, i) = fine-made (λ v. IsOf w v (filled f t)) Nil n (of-filled w Nil f t (s.List u) i tt)
+  sound w good call ok Checked f vs (e.List at e.no_exprs) t vars n b (u, i) = fine-made (λ v. IsValue w v (filled f t)) Nil n (of-filled w Nil f t (s.List u) i tt)
   sound w good call ok Found f vs (e.List at e.no_exprs) t vars n b h = absurd h
   sound w good call ok way f vs (e.List at (e.expr_then a rest)) t vars n b (u, i, h, k) =
       fine-then (AllOf w (filled f u)) _ (values w call (e.expr_then a rest) vars n) _
@@ -199,7 +165,7 @@ mutual
 
   -- the parts of a call
   pub sound-parts : (w : World) → IsSoundWorld w → (call : Caller) → CallerIsSound w call → (f : Filling) (vs : Vars) (fill : Filling) (known : List Name) (ts : List SeqType) (all : Exprs) (vars : Bindings) (n : ℕ)
-      → AreBound w f vars vs → PartsHaveTypes w vs fill known ts all → Fine (λ us. AllAreOf w us (map (filled f) (map (filled fill) ts))) (values w call all vars n)
+      → AreBound w f vars vs → PartsHaveTypes w vs fill known ts all → Fine (λ us. AllAreValues w us (map (filled f) (map (filled fill) ts))) (values w call all vars n)
   sound-parts w good call ok f vs fill known [] e.no_exprs vars n b h = tt
   sound-parts w good call ok f vs fill known (t ∷ ts) (e.expr_then a rest) vars n b (h, k) =
       fine-part w (filled f (filled fill t)) (map (filled f) (map (filled fill) ts)) (value w call a vars n) (values w call rest vars)
@@ -209,8 +175,8 @@ mutual
 
   -- the row that is chosen
   sound-row : (w : World) → IsSoundWorld w → (call : Caller) → CallerIsSound w call → (way : Way) (f : Filling) (vs : Vars) (rows : ExprRows) (u t : SeqType) (i : ℕ) (v : Tree) (row : Row) (xs vars : Bindings) (n : ℕ)
-      → AreBound w f vars vs → RowsHaveType way w vs rows u t → slice_get (expr_rows rows) i ≡ Some row → row_matched w row (v ∷ []) ≡ Some xs → IsOf w v (filled f u)
-      → Fine (λ r. IsOf w r (filled f t)) (row_value w call rows i (xs ++ vars) n)
+      → AreBound w f vars vs → RowsHaveType way w vs rows u t → slice_get (expr_rows rows) i ≡ Some row → row_matched w row (v ∷ []) ≡ Some xs → IsValue w v (filled f u)
+      → Fine (λ r. IsValue w r (filled f t)) (row_value w call rows i (xs ++ vars) n)
   sound-row w good call ok way f vs e.no_expr_rows u t i v row xs vars n b h g m p = absurd (cc g)
   sound-row w good call ok way f vs (e.expr_row_then q a rows) u t zero v row xs vars n b (ys, fit, d, h, k) g m p =
       let same : form_of q ∷ [] ≡ row = cc g in
@@ -223,17 +189,14 @@ mutual
 
 -- a function's row that is chosen
 body-fine : (w : World) → IsSoundWorld w → (call : Caller) → CallerIsSound w call → (fd : FunctionDecl) → FunctionIsTyped w fd → (g : Filling) (us : List Tree) (n : ℕ)
-    → AllAreOf w us (map (filled g) fd.parameters) → Fine (λ v. IsOf w v (filled g fd.result)) (body_value w call fd us n)
-body-fine w good call ok fd (typed, exhaustive) g us n h =
-    let some = nothing-missing w good.constructors (function_rows fd.rows) fd.parameters us (function-long w fd fd.rows typed) exhaustive (instances-of w us g fd.parameters h) in
-    go (chosen w (function_rows fd.rows) us some)
+    → AllAreValues w us (map (filled g) fd.parameters) → Fine (λ v. IsValue w v (filled g fd.result)) (body_value w call fd us n)
+body-fine w good call ok fd (typed, exhaustive) g us n h = go (function-chooses w good.constructors fd us (typed, exhaustive) (instances-of w us g fd.parameters h))
   where
-    go : ((r : ℕ × Bindings) × (first_match w (function_rows fd.rows) us ≡ Some r) × (row : Row) × (slice_get (function_rows fd.rows) r.0 ≡ Some row) × (row_matched w row us ≡ Some r.1))
-        → Fine (λ v. IsOf w v (filled g fd.result)) (body_value w call fd us n)
+    go : SomeRowMatches w (function_rows fd.rows) us → Fine (λ v. IsValue w v (filled g fd.result)) (body_value w call fd us n)
     go (r, first, row, at, match) = by (row-at w fd fd.rows r.0 row typed at)
       where
         by : ((q : FunctionRow) × (slice_get fd.rows r.0 ≡ Some q) × (form.list_of (part_forms q.patterns) ≡ row) × RowIsTyped w fd q)
-            → Fine (λ v. IsOf w v (filled g fd.result)) (body_value w call fd us n)
+            → Fine (λ v. IsValue w v (filled g fd.result)) (body_value w call fd us n)
         by (q, place, forms, (xs, fit, distinct, has)) =
             let here : row_matched w (form.list_of (part_forms q.patterns)) us ≡ Some r.1 = subst (λ z. row_matched w z us ≡ Some r.1) (sym forms) match in
             fine-given _ (first_match w (function_rows fd.rows) us) r n _ first (fine-given _ (slice_get fd.rows r.0) q n _ place
@@ -247,5 +210,5 @@ calls-fine w good (suc d) x fd i g us (suc n) h =
     fine-given _ (function_named w x) fd (suc n) _ i (body-fine w good (calls w d) (calls-fine w good d) fd (good.functions x fd i) g us n h)
 
 pub value-is-fine : (w : World) → IsSoundWorld w → (way : Way) (f : Filling) (vs : Vars) (a : Expr) (t : SeqType) (vars : Bindings) (n : ℕ)
-    → AreBound w f vars vs → HasType way w vs a t → Fine (λ v. IsOf w v (filled f t)) (value_of w a vars n)
+    → AreBound w f vars vs → HasType way w vs a t → Fine (λ v. IsValue w v (filled f t)) (value_of w a vars n)
 value-is-fine w good way f vs a t vars n b h = sound w good (calls w n) (calls-fine w good n) way f vs a t vars n b h

@@ -3,12 +3,12 @@ use Rattle.std.proofs.Common.{◌≡◌, refl, sym, ap, suc, Bool, true, false, 
 use Rattle.campl_tree.specs.declared.place.Place.{Place}
 use Rattle.campl_tree.specs.Plain.SeqType.{SeqType, SeqTypes, no_types, type_then, Variable}
 use Rattle.campl_tree.specs.Plain.SeqType as s
-use Rattle.campl_types.specs.Names.{Name, same_name, is_among, found}
+use Rattle.campl_types.specs.Names.{Name, same_name, is_among, found, Within}
 use Rattle.campl_types.proofs.Names.{same-itself}
 use Rattle.campl_types.specs.Substitution.{Filling, filling, filled, all_filled, variables_of, variables_of_all, list_of, types_of}
 use Rattle.campl_types.specs.World.{variables_of_list}
-use Rattle.campl_soundness.specs.Worlds.{Within}
-use Rattle.campl_soundness.proofs.Among.{or-first, within-left, within-right}
+use Rattle.campl_types.proofs.Truth.{or-first}
+use Rattle.campl_types.proofs.Among.{within-left, within-right}
 
 pub filled-list : (f : Filling) (ts : SeqTypes) → list_of (all_filled f ts) ≡ map (filled f) (list_of ts)
 filled-list f no_types = refl

@@ -1,5 +1,0 @@
-use Rattle.campl_soundness.proofs.Sources.{source-is-sound}
-use Rattle.campl_soundness.proofs.laws.law_soundness.Goals as goal
-
-pub returns : goal.returns
-returns c = source-is-sound
