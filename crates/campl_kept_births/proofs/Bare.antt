@@ -15,29 +15,6 @@ use Rattle.campl_types.specs.Views.{View, turned, deed_of, side_of}
 use Rattle.campl_meaning.specs.States.{Message}
 use Rattle.campl_meaning.specs.Views.{view_of, TakesAll}
 
-mutual
-  bare-seq : (t : SeqType) → bare (bare t) ≡ bare t
-  bare-seq s.Int = refl
-  bare-seq s.Char = refl
-  bare-seq s.Bool = refl
-  bare-seq (s.List t) = ap s.List (bare-seq t)
-  bare-seq (s.Pair t u) = ap₂ s.Pair (bare-seq t) (bare-seq u)
-  bare-seq (s.Named at x ts) = ap (s.Named nowhere x) (bare-seqs ts)
-  bare-seq (s.Variable at x) = refl
-
-  bare-seqs : (ts : SeqTypes) → all_bare (all_bare ts) ≡ all_bare ts
-  bare-seqs no_types = refl
-  bare-seqs (type_then t ts) = ap₂ type_then (bare-seq t) (bare-seqs ts)
-
-pub bare-twice : (x : ChanType) → bare_chan (bare_chan x) ≡ bare_chan x
-bare-twice (c.Put t x) = ap₂ c.Put (bare-seq t) (bare-twice x)
-bare-twice (c.Get t x) = ap₂ c.Get (bare-seq t) (bare-twice x)
-bare-twice (c.Tensor x y) = ap₂ c.Tensor (bare-twice x) (bare-twice y)
-bare-twice (c.Par x y) = ap₂ c.Par (bare-twice x) (bare-twice y)
-bare-twice c.TopBot = refl
-bare-twice (c.Neg x) = ap c.Neg (bare-twice x)
-bare-twice (c.Named at x ts) = ap (c.Named nowhere x) (bare-seqs ts)
-
 -- what stands at a split: its view splits into the parts without their places
 pub record IsSplitAt (w : World) (side : Side) (u t r : ChanType) : Type 0 where
   pub view : deed_of w (view_of side u) ≡ Splits (bare_chan t) (bare_chan r)

@@ -41,11 +41,12 @@ use Rattle.campl_meaning.proofs.Finite.{finite-of, finite-kept}
 use Rattle.campl_peel.proofs.Terms.{ends-with}
 use Rattle.campl_kept_births.proofs.Naming.{some-or-none}
 use Rattle.campl_kept_births.proofs.Listed.{IsTidy, found-kept, found-still, not-kept, found-more, found-without, still-without, lists-first, lists-more, lists-later, tidy-those, tidy-more, tidy-without}
-use Rattle.campl_kept_births.proofs.Bare.{bare-twice, IsForkAt, fork-at}
+use Rattle.campl_kept_births.proofs.Bare.{IsForkAt, fork-at}
 use Rattle.campl_kept_births.proofs.Frame.{some-is, lists, lists-found, found-listed, not-true, agree-same, agree-turned, IsGoodPair, settled, Hands, at-other, at-own, at-kin, lawful-after}
 use Rattle.campl_kept_births.proofs.Masks.{ends-apart, nodes-apart, same_node, masked, standing-some, standing-none, mask, unmask, at-holder, at-pair, node-at, node-in, node-gone, pair-there, owes-last, carried-owes}
 use Rattle.campl_kept_births.proofs.Newborn.{born-differ, born-fresh, born-idle, not-born, own-place, no-child-yet, child-not, family, parent-there, child-there, others-there, new-agree}
 use Rattle.campl_kept_births.proofs.SplitStep.{end-of, held-of, held-without}
+use Rattle.campl_types.proofs.Bare.{bare-chan-twice}
 
 -- Messages with one more
 
@@ -581,8 +582,8 @@ module _ (source : Program) (c : Configuration) (l : Lawful source c) (p : Path)
           second = bare_chan w;
           reached = reached;
           splits = at-fork.other;
-          is_first = (t, channel-a2 ∙ ap (λ q. Some (On q t)) (sym at-fork.on), sym (bare-twice t));
-          is_second = (w, channel-b2 ∙ ap (λ q. Some (On q w)) (sym at-fork.on), sym (bare-twice w));
+          is_first = (t, channel-a2 ∙ ap (λ q. Some (On q t)) (sym at-fork.on), sym (bare-chan-twice t));
+          is_second = (w, channel-b2 ∙ ap (λ q. Some (On q w)) (sym at-fork.on), sym (bare-chan-twice w));
         });
   }
 

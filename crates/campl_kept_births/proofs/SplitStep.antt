@@ -39,10 +39,11 @@ use Rattle.campl_meaning.specs.Apart.{Place, At, In, Gone, IsCarried, IsJoined, 
 use Rattle.campl_meaning.specs.Lawful.{Channels, seen, IsTypedAt, IsPairOf, Agree, Lawful}
 use Rattle.campl_kept_births.proofs.Naming.{some-or-none}
 use Rattle.campl_kept_births.proofs.Listed.{IsTidy, found-more, found-without, still-without, lists-first, lists-more, lists-later, tidy-more, tidy-without}
-use Rattle.campl_kept_births.proofs.Bare.{bare-twice, IsSplitAt, split-at}
+use Rattle.campl_kept_births.proofs.Bare.{IsSplitAt, split-at}
 use Rattle.campl_kept_births.proofs.Frame.{some-is, lists, lists-found, found-listed, agree-same, agree-turned, carries, settled, Hands, at-other, at-own, lawful-after}
 use Rattle.campl_kept_births.proofs.Masks.{ends-apart, masked, standing-some, standing-none, mask, unmask, node-at, node-in, node-gone, node-nowhere, pair-there}
 use Rattle.campl_kept_births.proofs.Newborn.{own-place, parent-there}
+use Rattle.campl_types.proofs.Bare.{bare-chan-twice}
 
 -- A node alone
 
@@ -190,7 +191,7 @@ module _ (source : Program) (c : Configuration) (l : Lawful source c) (p : Path)
   -- an end that was carried is seen as it was
   seen-as : (e : End) (m n f : ChanType) → l.channel e ≡ Some (On (side_of pair.view) m) → IsSameChan m f → f ≡ bare_chan n → seen l.channel e ≡ view_of side n
   seen-as e m n f i same is =
-      let g : bare_chan m ≡ bare_chan n = same ∙ (ap bare_chan is ∙ bare-twice n) in
+      let g : bare_chan m ≡ bare_chan n = same ∙ (ap bare_chan is ∙ bare-chan-twice n) in
       ap view_in i ∙ (ap (λ s. view_of s m) pair-side ∙ ap (v.view_of side) g)
 
   seen-a : seen channel2 a ≡ seen l.channel a

@@ -12,50 +12,9 @@ use Rattle.campl_types.specs.Polarity.{Deed, Puts, Gets, Forks, Splits, Picks, O
 use Rattle.campl_types.specs.Views as plain
 use Rattle.campl_types.specs.Views.{View, As, Nothing, turned, deed_of, side_of}
 use Rattle.campl_types.specs.Linear.{AreJoined}
-use Rattle.campl_types.proofs.Turned.{turned-twice, view-turned}
+use Rattle.campl_types.proofs.Turned.{turned-twice, view-turned, answered, deed-of-turned}
 use Rattle.campl_meaning.specs.States.{Message}
 use Rattle.campl_meaning.specs.Views.{view_of, taken_at, TakesAll}
-
--- The other side
-
--- what the other side does
-abbrev answered : Deed → Deed
-answered (Puts t x) = Gets t x
-answered (Gets t x) = Puts t x
-answered (Forks x y) = Splits x y
-answered (Splits x y) = Forks x y
-answered (Picks cs) = Offers cs
-answered (Offers cs) = Picks cs
-answered Ends = Ends
-answered IsLinked = IsLinked
-
-named-answered : (e : Option TypeEntry) (s : Side) (ts : List SeqType) → of_named e (opposite s) ts ≡ answered (of_named e s ts)
-named-answered (Some (ProtocolType d)) Input ts = refl
-named-answered (Some (ProtocolType d)) Output ts = refl
-named-answered (Some (CoprotocolType d)) Input ts = refl
-named-answered (Some (CoprotocolType d)) Output ts = refl
-named-answered (Some (DataType d)) s ts = refl
-named-answered None s ts = refl
-
-deed-answered : (w : World) (s : Side) (t : ChanType) → deed w (opposite s) t ≡ answered (deed w s t)
-deed-answered w Output (Put t x) = refl
-deed-answered w Input (Put t x) = refl
-deed-answered w Output (Get t x) = refl
-deed-answered w Input (Get t x) = refl
-deed-answered w Output (Tensor x y) = refl
-deed-answered w Input (Tensor x y) = refl
-deed-answered w Output (Par x y) = refl
-deed-answered w Input (Par x y) = refl
-deed-answered w Output TopBot = refl
-deed-answered w Input TopBot = refl
-deed-answered w Output (Neg x) = refl
-deed-answered w Input (Neg x) = refl
-deed-answered w Output (Named at x ts) = named-answered (type_named w x) Output (list_of ts)
-deed-answered w Input (Named at x ts) = named-answered (type_named w x) Input (list_of ts)
-
-deed-of-turned : (w : World) (v : View) → deed_of w (turned v) ≡ answered (deed_of w v)
-deed-of-turned w (As s t) = deed-answered w s t
-deed-of-turned w Nothing = refl
 
 one-taken : (w : World) (s r : Side) (d : Deed) (l k : Message) (u v : View) → taken_at w s d l u → taken_at w r (answered d) k v → ⊥
 one-taken w s r (Puts t x) l k u v a b = absurd a

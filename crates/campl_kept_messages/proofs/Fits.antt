@@ -43,12 +43,13 @@ use Rattle.campl_meaning.specs.Reductions.{Configuration, act_of, event_of}
 use Rattle.campl_meaning.specs.Wants.{wants}
 use Rattle.campl_meaning.specs.Ends.{MayReduce, IsAsked}
 use Rattle.campl_meaning.specs.Lawful.{own_chan, taking, Lawful}
-use Rattle.campl_kept_messages.proofs.Choices.{choices-of, choice-number, found-number}
 use Rattle.campl_kept_messages.proofs.Passing.{IsChoice, may-get, may-offer}
 use Rattle.campl_kept_messages.proofs.Processes.{typed-now, well-now, stands, channel-of, first-taken}
 use Rattle.campl_kept_messages.proofs.Services as serving
 use Rattle.campl_kept_messages.proofs.Services.{service_choices, service-offers, service-gets, choice-asks, asks-of, takes-of, sends-of, in-phase}
 use Rattle.campl_types.specs.Values.{IsValue}
+use Rattle.campl_types.proofs.DeclaredOnce.{protocols-are-known, coprotocols-are-known}
+use Rattle.campl_types.proofs.Choices.{choices-of, choice-number, found-number}
 
 -- it goes, or its end's partner owes nothing
 abbrev pub GoesOrWaits : World → Configuration → Who → End → Type 0
@@ -181,7 +182,7 @@ module _ (source : Program) (c : Configuration) (l : Lawful source c) (p : Path)
   hput-goes at q x rest term =
       let ((s, u, cs, y, hx, picks, named, well), trees) = well-now source c l p r is (b.Then (b.Hput at q x) rest) term in
       let (e, he) = end-at x.name (On s u) hx in
-      let (n, number) = found-number source l.accepted.typed.declared cs (choices-of w s u cs (inl picks)) q.name y named in
+      let (n, number) = found-number w (protocols-are-known source l.accepted.typed.declared) (coprotocols-are-known source l.accepted.typed.declared) cs (choices-of w s u cs (inl picks)) q.name y named in
       by-command _ term (moved c (Process p) (record { send = Some (e, Pick n); channels = []; children = []; next = Some (onward r (Doing rest) r.variables r.ends) }))
       (at-found k.Pick' (found x.name r.ends) e _ _ he (at-found k.Pick' (number_of w q.name) n _ _ number refl))
 
@@ -224,7 +225,7 @@ module _ (source : Program) (c : Configuration) (l : Lawful source c) (p : Path)
             | inr (m, ms, first) ↦
                 let (n, takes) = first-taken source c l p r is c e z s u m ms (channel-of source c l p r is x.name e he (On s u) hx) pz first in
                 let (j, name, y, pick, choice, may) = may-offer w s u cs m n offers takes in
-                let number : number_of w name ≡ Some j = choice-number source l.accepted.typed.declared cs (choices-of w s u cs (inr offers)) j name y choice in
+                let number : number_of w name ≡ Some j = choice-number w (protocols-are-known source l.accepted.typed.declared) (coprotocols-are-known source l.accepted.typed.declared) cs (choices-of w s u cs (inr offers)) j name y choice in
                 let (body, picked) = row-there w j name y rows (each-at rows cs j name y each choice) number in
                 inl (by-command _ term (looked c (Process p) true z (onward r (Doing body) r.variables r.ends))
                 (at-found k.Offer (found x.name r.ends) e _ _ he

@@ -39,9 +39,10 @@ use Rattle.campl_meaning.specs.Lawful.{Channels, seen, IsTypedAt, Agree, Lawful}
 use Rattle.campl_machine.specs.Progress.{Within}
 use Rattle.campl_kept_messages.proofs.Stays.{gone_on, from, stays}
 use Rattle.campl_kept_messages.proofs.Frame.{renewed, held-here}
-use Rattle.campl_kept_messages.proofs.Choices.{choices-of, numbered-choice}
 use Rattle.campl_kept_messages.proofs.Passing.{MayTake, second-of, may-put, may-pick, may-get, may-offer, send-lawful, take-lawful}
 use Rattle.campl_types.specs.Values.{IsValue}
+use Rattle.campl_types.proofs.DeclaredOnce.{protocols-are-known, coprotocols-are-known}
+use Rattle.campl_types.proofs.Choices.{choices-of, numbered-choice}
 
 -- what is held under a name is the channel of the end there
 pub held-found : (channel : Channels) (es : Ends) (x : Name) (e : End) → found x es ≡ Some e → held_ends channel es x ≡ channel e
@@ -184,7 +185,7 @@ module _ (source : Program) (c : Configuration) (l : Lawful source c) (p : Path)
         go e he n number is_sent =
             let ((s, u, cs, y, hx, picks, named, well), trees) = well-now (b.Then (b.Hput at q x) rest) term in
             let (stood, (f, joined)) = stands x.name e he in
-            let (z, choice) = numbered-choice source l.accepted.typed.declared cs (choices-of w s u cs (inl picks)) q.name y n named number in
+            let (z, choice) = numbered-choice w (protocols-are-known source l.accepted.typed.declared) (coprotocols-are-known source l.accepted.typed.declared) cs (choices-of w s u cs (inl picks)) q.name y n named number in
             subst (Lawful source) (sym is_sent)
             (send-lawful source c l (Process p) (Runs r) (onward r (Doing rest) r.variables r.ends) e f s u y (Pick n) is stood joined (channel-of x.name e he (On s u) hx) (may-pick w s u cs n z y picks choice)
             (refl, omega arith) (typed-on x.name e he (On s y) typed-now.vars r.variables rest typed-now.bound well trees) (λ n b k. absurd (cc k)))
@@ -233,7 +234,7 @@ module _ (source : Program) (c : Configuration) (l : Lawful source c) (p : Path)
             let went : option_map (λ body. onward r (Doing body) r.variables r.ends) (row_picked w j rows) ≡ Some st = sym (ap (on_pick (λ n. option_map (λ body. onward r (Doing body) r.variables r.ends) (row_picked w n rows))) pick) ∙ fits in
             let (body, picked, same) = chosen (row_picked w j rows) st went in
             let (own, y2, named, number, well, tree) = row-typed w typed-now.vars (held_ends l.channel r.ends) x.name s cs j rows body rowed trees picked in
-            let (z2, choice2) = numbered-choice source l.accepted.typed.declared cs (choices-of w s u cs (inr offers)) own y2 j named number in
+            let (z2, choice2) = numbered-choice w (protocols-are-known source l.accepted.typed.declared) (coprotocols-are-known source l.accepted.typed.declared) cs (choices-of w s u cs (inr offers)) own y2 j named number in
             let may2 : MayTake w s u m y2 = subst (MayTake w s u m) (second-of cs j name z2 y y2 choice choice2) may in
             let lawful : Lawful source (gone_on c (Process p) (onward r (Doing body) r.variables r.ends) (taken true z c.owed)) =
             take-lawful source c l (Process p) (Runs r) (onward r (Doing body) r.variables r.ends) e z s u y2 m is (stands x.name e he).0 pz ce ms first may2

@@ -10,51 +10,15 @@ use Rattle.campl_types.specs.Names.{Name}
 use Rattle.campl_types.specs.SameType.{bare, bare_chan}
 use Rattle.campl_types.specs.Substitution.{list_of}
 use Rattle.campl_types.specs.World.{World, TypeEntry, DataType, ProtocolType, CoprotocolType, type_named}
-use Rattle.campl_types.specs.Polarity.{Deed, Puts, Gets, Forks, Splits, Picks, Offers, Ends, IsLinked, Choices, deed, of_named}
+use Rattle.campl_types.specs.Polarity.{Deed, Puts, Gets, Forks, Splits, Picks, Offers, Ends, IsLinked, Choices, deed, of_named, bare_choices, bare_deed}
 use Rattle.campl_types.specs.Views as v
 use Rattle.campl_types.specs.Views.{View, As, Nothing, turned, deed_of, side_of}
-use Rattle.campl_types.proofs.Turned.{view-turned}
+use Rattle.campl_types.proofs.Turned.{view-turned, answered, deed-turned}
 use Rattle.campl_evaluation.proofs.Same.{of-same}
 use Rattle.campl_meaning.specs.States.{Message, Word, Pick, EndPair}
 use Rattle.campl_meaning.specs.Views.{view_of, taken_at, Takes, TakesAll}
-use Rattle.campl_kept_messages.proofs.Bare.{bare_choices, bare_deed, deed-bare, puts-of, gets-of, picks-of, offers-of}
 use Rattle.campl_types.specs.Values.{IsValue}
-
--- The table from the other side
-
-abbrev pub answered : Deed → Deed
-answered (Puts t x) = Gets t x
-answered (Gets t x) = Puts t x
-answered (Forks x y) = Splits x y
-answered (Splits x y) = Forks x y
-answered (Picks cs) = Offers cs
-answered (Offers cs) = Picks cs
-answered Ends = Ends
-answered IsLinked = IsLinked
-
-named-turned : (e : Option TypeEntry) (s : Side) (ts : List SeqType) → of_named e (opposite s) ts ≡ answered (of_named e s ts)
-named-turned (Some (ProtocolType d)) Input ts = refl
-named-turned (Some (ProtocolType d)) Output ts = refl
-named-turned (Some (CoprotocolType d)) Input ts = refl
-named-turned (Some (CoprotocolType d)) Output ts = refl
-named-turned (Some (DataType d)) s ts = refl
-named-turned None s ts = refl
-
-pub deed-turned : (w : World) (s : Side) (t : ChanType) → deed w (opposite s) t ≡ answered (deed w s t)
-deed-turned w Output (Put t x) = refl
-deed-turned w Input (Put t x) = refl
-deed-turned w Output (Get t x) = refl
-deed-turned w Input (Get t x) = refl
-deed-turned w Output (Tensor x y) = refl
-deed-turned w Input (Tensor x y) = refl
-deed-turned w Output (Par x y) = refl
-deed-turned w Input (Par x y) = refl
-deed-turned w Output TopBot = refl
-deed-turned w Input TopBot = refl
-deed-turned w Output (Neg x) = refl
-deed-turned w Input (Neg x) = refl
-deed-turned w Output (Named at x ts) = named-turned (type_named w x) Output (list_of ts)
-deed-turned w Input (Named at x ts) = named-turned (type_named w x) Input (list_of ts)
+use Rattle.campl_types.proofs.Bare.{deed-bare, puts-of, gets-of, picks-of, offers-of}
 
 -- a channel at which anything may be done but an identity is its own view
 pub plain : (w : World) (s : Side) (u : ChanType) → deed w s u ≢ IsLinked → view_of s u ≡ As s (bare_chan u)

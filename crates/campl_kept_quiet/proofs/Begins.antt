@@ -39,10 +39,10 @@ use Rattle.campl_meaning.specs.Apart.{Place, At, In, Gone, IsPlaced, IsJoined, I
 use Rattle.campl_meaning.specs.Lawful.{IsAccepted, Channels, seen, IsTypedAt, Agree, AreLastPairs, IsInPhase, service_side, Lawful}
 use Rattle.campl_kept_quiet.specs.Quiet.{IsAlike}
 use Rattle.campl_kept_quiet.proofs.Alike.{alike-itself, alike-seen, alike-on}
-use Rattle.campl_kept_quiet.proofs.Processes.{process-typed}
 use Rattle.campl_kept_quiet.proofs.Handed.{distinct-right, Among, found-among, among-found, one-name, Fit, retyped, retyped-alike, listed, held-is}
 use Rattle.campl_kept_quiet.proofs.Calls.{heading, channels-listed}
 use Rattle.campl_kept_quiet.proofs.Wires.{Wired, near-far, partner-near, partner-far, partner-is, own, base, base-near, base-far, among-holding, holding-is, holding-differ, holding-names, Suit, suit-append, suit-fit, attend, no-process, serving-is, serving-there, service_names, service-listed, wired_ends, joined-listed}
+use Rattle.campl_types.proofs.Lowers.{process-typed}
 
 -- `run`
 

@@ -16,7 +16,6 @@ use Rattle.campl_types.specs.Patterns.{bound_by_all}
 use Rattle.campl_types.specs.Held.{Channel, On, HoldsOnly, nothing_held}
 use Rattle.campl_types.specs.Linear.{IsWellFormed, AreHanded, ProcessIsTyped, row_channels, row_variables, hold}
 use Rattle.campl_types.specs.Sequential.{PartsHaveTypes}
-use Rattle.campl_types.proofs.Runs.{length-map}
 use Rattle.campl_evaluation.specs.Evaluation.{values_of}
 use Rattle.campl_evaluation.specs.Typed.{Fine}
 use Rattle.campl_evaluation.proofs.Declared.{typed-world}
@@ -33,9 +32,11 @@ use Rattle.campl_kept_quiet.proofs.Alike.{alike-itself}
 use Rattle.campl_kept_quiet.proofs.Frame.{frame}
 use Rattle.campl_kept_quiet.proofs.Acts.{found-does, answer-does}
 use Rattle.campl_kept_quiet.proofs.Steps.{typed-body, works, none-else}
-use Rattle.campl_kept_quiet.proofs.Processes.{process-typed, all-bound}
+use Rattle.campl_kept_quiet.proofs.Processes.{all-bound}
 use Rattle.campl_kept_quiet.proofs.Handed.{distinct-right, names-append, Among, Differ, is_end, end-among, among-end, found-among, among-found, one-name, Are, are-append, handed-are, both-split, Fit, fit-append, handed-fit, retyped, retyped-alike, retyped-others, listed, hold-listed, listed-append, held-is, among-from, named-among, are-differ}
 use Rattle.campl_types.specs.Values.{AllAreValues}
+use Rattle.campl_types.proofs.Lowers.{process-typed}
+use Rattle.std.proofs.lemmas.List.{length-map}
 
 -- the types of a heading
 abbrev pub heading : ProcessDecl → List Channel
@@ -46,7 +47,7 @@ pub channels-listed : (d : ProcessDecl) → length d.row.inputs ≡ length d.inp
 channels-listed d long =
     let outs : hold Output d.row.outputs d.outputs nothing_held ≡ listed (names_of d.row.outputs) (map (On Output) d.outputs) nothing_held = hold-listed Output d.row.outputs d.outputs nothing_held in
     let ins : row_channels d ≡ listed (names_of d.row.inputs) (map (On Input) d.inputs) (hold Output d.row.outputs d.outputs nothing_held) = hold-listed Input d.row.inputs d.inputs (hold Output d.row.outputs d.outputs nothing_held) in
-    let same : length (names_of d.row.inputs) ≡ length (map (On Input) d.inputs) = length-map _ d.row.inputs ∙ (long ∙ sym (length-map (On Input) d.inputs)) in
+    let same : length (names_of d.row.inputs) ≡ length (map (On Input) d.inputs) = length-map d.row.inputs _ ∙ (long ∙ sym (length-map d.inputs (On Input))) in
     ins ∙ (ap (listed (names_of d.row.inputs) (map (On Input) d.inputs)) outs
     ∙ sym (listed-append (names_of d.row.inputs) (names_of d.row.outputs) (map (On Input) d.inputs) (map (On Output) d.outputs) nothing_held same))
 

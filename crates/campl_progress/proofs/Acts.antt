@@ -22,7 +22,7 @@ use Rattle.campl_types.specs.Fits.{Vars}
 use Rattle.campl_types.specs.Held.{Held, Channel, On}
 use Rattle.campl_types.specs.Linear.{IsWellFormed, BranchesAreWellFormed, HasEachOnce, AreHanded, ProcessIsTyped, body_rows, receives_on}
 use Rattle.campl_types.specs.Matching.{first_match, number_of, is_number, row_picked}
-use Rattle.campl_types.specs.Polarity.{Deed, Puts, Gets, Forks, Splits, Picks, Offers, Ends, IsLinked, Choices, deed}
+use Rattle.campl_types.specs.Polarity.{ProtocolsAreKnown, CoprotocolsAreKnown, Deed, Puts, Gets, Forks, Splits, Picks, Offers, Ends, IsLinked, Choices, deed}
 use Rattle.campl_types.specs.Sequential.{Found, Checked}
 use Rattle.campl_types.specs.Views.{View, deed_of, side_of}
 use Rattle.campl_evaluation.specs.Evaluation.{Answer, Done, Deep, Wrong, More, value_of, values_of}
@@ -42,8 +42,9 @@ use Rattle.campl_meaning.specs.Reductions.{Configuration}
 use Rattle.campl_meaning.specs.Views.{view_of, view_in, taken_at, Takes}
 use Rattle.campl_meaning.specs.Apart.{Place, At, IsJoined, IsApart, Holder, graph}
 use Rattle.campl_meaning.specs.Lawful.{Channels, seen}
+use Rattle.campl_types.proofs.EachOnce.{each-one, one-row}
 use Rattle.campl_progress.specs.Deep.{BodyIsDeep, TermIsDeep, BodyIsWrong, TermIsWrong}
-use Rattle.campl_progress.proofs.Choices.{ChoicesAreKnown, offer-number, pick-number}
+use Rattle.campl_types.proofs.Choices.{choices-of, choice-number, found-number}
 use Rattle.campl_progress.proofs.Waits.{IsWaiting, Waits, Alike, alike}
 use Rattle.campl_types.specs.Values.{IsValue, AllAreValues}
 
@@ -121,37 +122,6 @@ and-both false b i = absurd (true≢false (sym i))
 and-true : (a : Bool) → a ≡ true → (a && true) ≡ true
 and-true a i = rw i refl
 
--- each choice has its row
-each-one : (rows : HcaseRows) (cs : Choices) (n : ℕ) (x : Name) (u : ChanType) → HasEachOnce rows cs → slice_get cs n ≡ Some (x, u) → HasEachOnce rows ((x, u) ∷ [])
-each-one rows [] n x u h i = absurd (cc i)
-each-one rows (e ∷ cs) zero x u h i =
-    let q : ◌≡◌ {A = Name × ChanType} e (x, u) = cc i in
-    subst (λ z. HasEachOnce rows (z ∷ [])) q (h.0, and-true _ (and-both _ _ h.1).0)
-each-one rows (e ∷ cs) (suc n) x u h i = each-one rows cs n x u (h.0, (and-both _ _ h.1).1) i
-
--- a row with another name isn't it
-other-row : (x : Name) (u : ChanType) (k : Ident) (first : Body) (rows : HcaseRows) → HasEachOnce (b.hcase_row_then k first rows) ((x, u) ∷ []) → same_name x k.name ≡ false → HasEachOnce rows ((x, u) ∷ [])
-other-row x u k first rows (distinct, all) other = ((and-both _ _ distinct).1, rw other at all)
-
--- and is found by its number
-one-row : (w : World) (n : ℕ) (x : Name) (u : ChanType) (rows : HcaseRows) → number_of w x ≡ Some n → HasEachOnce rows ((x, u) ∷ []) → (body : Body) × (row_picked w n rows ≡ Some body)
-one-row w n x u b.no_hcase_rows e h = absurd (true≢false (sym h.1))
-one-row w n x u (b.hcase_row_then k first rows) e h = go (is_number (number_of w k.name) n) refl (one-row w n x u rows e)
-  where
-    here : same_name x k.name ≡ true → is_number (number_of w k.name) n ≡ true
-    here i = let q : number_of w k.name ≡ Some n = subst (λ z. number_of w z ≡ Some n) (same-is x k.name i) e in rw q (eq-eqb n n refl)
-
-    go : (t : Bool) → is_number (number_of w k.name) n ≡ t → (HasEachOnce rows ((x, u) ∷ []) → (body : Body) × (row_picked w n rows ≡ Some body)) →
-        (body : Body) × ((if is_number (number_of w k.name) n then Some first else row_picked w n rows) ≡ Some body)
-    go true i later = (first, rw i refl)
-    go false i later =
-        let other : same_name x k.name ≡ false = elim (split (same_name x k.name)) [
-          | inl same ↦ absurd (true≢false (sym (here same) ∙ i))
-          | inr other ↦ other
-        ] in
-        let (body, j) = later (other-row x u k first rows h other) in
-        (body, rw i j)
-
 -- the row of `case`
 row-there : (rows : CaseRows) (i : ℕ) (q : Pattern × Body) → row_body rows i ≡ Some q → row_at rows i ≡ Some q.1
 row-there b.no_case_rows i q h = absurd (cc h)
@@ -189,7 +159,7 @@ not-wrong P o rest h i = subst (Fine P) i h
 
 -- Commands
 
-module _ (w : World) (good : IsSoundWorld w) (known : ChoicesAreKnown w) (processes : (x : Name) (d : ProcessDecl) → process_named w x ≡ Some d → ProcessIsTyped w d)
+module _ (w : World) (good : IsSoundWorld w) (protocols : ProtocolsAreKnown w) (coprotocols : CoprotocolsAreKnown w) (processes : (x : Name) (d : ProcessDecl) → process_named w x ≡ Some d → ProcessIsTyped w d)
     (c : Configuration) (channel : Channels) (place : End → Place) (l : IsApart c place)
     (p : Path) (r : Running) (there : c.nodes (Process p) ≡ Some (Runs r)) (vs : Vars) (bound : AreBound w [] r.variables vs) where
   abbrev held : Held
@@ -247,7 +217,7 @@ module _ (w : World) (good : IsSoundWorld w) (known : ChoicesAreKnown w) (proces
   branch-waits : (x : Name) (body : Body) → receives_on x body ≡ true → IsWellFormed w vs held body → (e : End) × (found x r.ends ≡ Some e) × Waits w (seen channel e)
   branch-waits x (b.Then (b.Get at v z) rest) i (s, u, t, y, hx, d, more) = waiting x z.name s u i hx (subst IsWaiting (sym d) tt)
   branch-waits x (b.Then (b.Split at z y1 y2) rest) i (s, u, t, y, hx, d, new, more) = waiting x z.name s u i hx (subst IsWaiting (sym d) tt)
-  branch-waits x (b.Hcase at z rows) i (s, u, cs, hx, d, once, more) = waiting x z.name s u i hx (subst IsWaiting (sym d) tt)
+  branch-waits x (b.Hcase at z rows) i (s, u, cs, hx, d, once, all, more) = waiting x z.name s u i hx (subst IsWaiting (sym d) tt)
   branch-waits x body i h = absurd (true≢false (sym i))
 
   all-held : (rows : Branches) → BranchesAreWellFormed w vs held rows → are_held rows r.ends ≡ true
@@ -286,7 +256,7 @@ module _ (w : World) (good : IsSoundWorld w) (known : ChoicesAreKnown w) (proces
       (receipt x.name e s u _ fx ce (subst IsWaiting (sym d) tt) (word-fits w s u t y _ d (λ v. (_, refl))))
   body-answers i (b.Then (b.Hput at q x) rest) (s, u, cs, y, hx, d, f, more) trees =
       let (e, fx, ce) = held-at channel r.ends x.name (On s u) hx in
-      let (n, number) = pick-number w known s u cs d q.name y f in
+      let (n, number) = found-number w protocols coprotocols cs (choices-of w s u cs (inl d)) q.name y f in
       looked-up _ _ k.Pick' (found x.name r.ends) e _ fx (looked-up _ _ k.Pick' (number_of w q.name) n _ number tt)
   body-answers i (b.Then (b.Split at x y z) rest) (s, u, t, v, hx, d, new, more) trees =
       let (e, fx, ce) = held-at channel r.ends x.name (On s u) hx in
@@ -299,12 +269,12 @@ module _ (w : World) (good : IsSoundWorld w) (known : ChoicesAreKnown w) (proces
   body-answers i (b.Halt at (Some x)) (s, u, hx, d, more) trees =
       let (e, fx, ce) = held-at channel r.ends x.name (On s u) hx in
       looked-up _ _ k.Halt (found x.name r.ends) e _ fx tt
-  body-answers i (b.Hcase at x rows) (s, u, cs, hx, d, once, more) trees =
+  body-answers i (b.Hcase at x rows) (s, u, cs, hx, d, once, all, more) trees =
       let (e, fx, ce) = held-at channel r.ends x.name (On s u) hx in
       looked-up _ _ k.Offer (found x.name r.ends) e _ fx
       (receipt x.name e s u _ fx ce (subst IsWaiting (sym d) tt)
       (pick-fits w s u cs _ d (λ n y t at.
-      let (body, picked) = one-row w n y t rows (offer-number w known s u cs d n y t at) (each-one rows cs n y t once at) in
+      let (body, picked) = one-row w n y t rows (choice-number w protocols coprotocols cs (choices-of w s u cs (inr d)) n y t at) (each-one rows cs n y t once at) in
       (_, ap (option_map _) picked))))
   body-answers i (b.Fork at x y left z right) (s, u, t, v, keep, hx, d, new, one, two) trees =
       let (e, fx, ce) = held-at channel r.ends x.name (On s u) hx in

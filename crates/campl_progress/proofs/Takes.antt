@@ -19,10 +19,10 @@ use Rattle.campl_meaning.specs.Ends.{NeverActs, IsBrokenAt}
 use Rattle.campl_meaning.specs.Views.{Takes, TakesAll}
 use Rattle.campl_meaning.specs.Lawful.{Lawful, IsTypedAt, Agree, seen}
 use Rattle.campl_progress.specs.Deep.{BodyIsDeep, TermIsDeep, SaysDeep, SaysWrong}
-use Rattle.campl_progress.proofs.Choices.{choices-are-known}
-use Rattle.campl_progress.proofs.Declared.{processes-typed}
+use Rattle.campl_types.proofs.DeclaredOnce.{protocols-are-known, coprotocols-are-known}
 use Rattle.campl_progress.proofs.Acts.{IsReceipt, Answers, term-answers, not-wrong-term}
 use Rattle.campl_progress.proofs.Serving.{IsIdle, service-answers}
+use Rattle.campl_types.proofs.Lowers.{process-typed}
 
 -- when a node may stand, and break
 abbrev pub MayStand : Who → State → ℕ → Type 0
@@ -72,7 +72,7 @@ module _ (source : Program) (c : Configuration) (l : Lawful source c) where
   pub node-answers : (who : Who) (s : State) (i : ℕ) → c.nodes who ≡ Some s → Answers w c l.channel l.place who (MayStand who s i) (MayBreak w who s) (act_of w who s i)
   node-answers (Process p) (Runs r) i is =
       let t : IsTypedAt w l.channel r = l.typed p r is in
-      term-answers w (typed-world source l.accepted.typed) (choices-are-known source l.accepted.typed.declared) (processes-typed source l.accepted.typed) c l.channel l.place l.apart p r is t.vars t.bound i r.term t.term
+      term-answers w (typed-world source l.accepted.typed) (protocols-are-known source l.accepted.typed.declared) (coprotocols-are-known source l.accepted.typed.declared) (process-typed source l.accepted.typed) c l.channel l.place l.apart p r is t.vars t.bound i r.term t.term
   node-answers (Service n) (Serves s) i is = service-answers source c l.channel l.place l.apart n s is (l.phases n s is)
   node-answers (Process p) (Serves s) i is = absurd (l.apart.placed.kinds (Process p) (Serves s) is)
   node-answers (Service n) (Runs r) i is = absurd (l.apart.placed.kinds (Service n) (Runs r) is)
@@ -103,7 +103,7 @@ module _ (source : Program) (c : Configuration) (l : Lawful source c) where
   pub never-wrong : (p : Path) (r : Running) → c.nodes (Process p) ≡ Some (Runs r) → SaysWrong w r → ⊥
   never-wrong p r is h =
       let t : IsTypedAt w l.channel r = l.typed p r is in
-      not-wrong-term w (typed-world source l.accepted.typed) (choices-are-known source l.accepted.typed.declared) (processes-typed source l.accepted.typed) c l.channel l.place l.apart p r is t.vars t.bound r.term t.term h
+      not-wrong-term w (typed-world source l.accepted.typed) (protocols-are-known source l.accepted.typed.declared) (coprotocols-are-known source l.accepted.typed.declared) (process-typed source l.accepted.typed) c l.channel l.place l.apart p r is t.vars t.bound r.term t.term h
 
   -- a process whose act can never happen is one whose evaluation says Deep
   never-deep : (who : Who) (stands deep : Type 0) (A : Act State Message) → Answers w c l.channel l.place who stands deep A → NeverActs c who A → deep

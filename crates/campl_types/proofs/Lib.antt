@@ -9,6 +9,7 @@ pub mod Lowers
 pub mod Bare
 pub mod Deeds
 pub mod EachOnce
+pub mod Choices
 pub mod Turned
 pub mod Instances
 pub mod Missing

@@ -4,15 +4,13 @@ use Rattle.campl_tree.specs.declared.service.Side.{Side}
 use Rattle.campl_tree.specs.declared.service.Side.TheVariants.{Input, Output}
 use Rattle.campl_tree.specs.Plain.SeqType.{SeqType}
 use Rattle.campl_tree.specs.Plain.ChanType.{ChanType, Put, Get, Tensor, Par, TopBot, Neg, Named}
-use Rattle.campl_tree.specs.Plain.Decl.{Program, ProtocolDecl, CoprotocolDecl, ProtocolConstructor, CoprotocolConstructor}
+use Rattle.campl_tree.specs.Plain.Decl.{ProtocolDecl, CoprotocolDecl, ProtocolConstructor, CoprotocolConstructor}
 use Rattle.campl_types.specs.Names.{Name, same_name, found}
-use Rattle.campl_types.specs.WellDeclared.{IsWellDeclared}
 use Rattle.campl_types.specs.Substitution.{list_of}
-use Rattle.campl_types.specs.World.{World, world_of, TypeEntry, DataType, ProtocolType, CoprotocolType, type_named, OfProtocol, OfCoprotocol, number_in, constructor_named}
+use Rattle.campl_types.specs.World.{World, TypeEntry, DataType, ProtocolType, CoprotocolType, type_named, OfProtocol, OfCoprotocol, number_in, constructor_named}
 use Rattle.campl_types.specs.Matching.{number_of}
-use Rattle.campl_types.specs.Polarity.{Deed, Picks, Offers, Choices, deed, of_named, protocol_choices, coprotocol_choices, line}
+use Rattle.campl_types.specs.Polarity.{ProtocolsAreKnown, CoprotocolsAreKnown, Deed, Picks, Offers, Choices, deed, of_named, protocol_choices, coprotocol_choices, line}
 use Rattle.campl_types.proofs.Names.{same-is}
-use Rattle.campl_kept_messages.proofs.Known.{protocols-are-known, coprotocols-are-known}
 
 abbrev pub AreChoices : World → Choices → Type 0
 AreChoices w cs =
@@ -74,36 +72,37 @@ get-mapped f [] n z i = absurd (cc i)
 get-mapped f (k ∷ ks) zero z i = (k, refl, cc i)
 get-mapped f (k ∷ ks) (suc n) z i = get-mapped f ks n z i
 
--- the constructor's number is the place of its choice
-pub numbered-choice : (source : Program) → IsWellDeclared source → (cs : Choices) → AreChoices (world_of source) cs → (k : Name) (y : ChanType) (n : ℕ) → found k cs ≡ Some y → number_of (world_of source) k ≡ Some n
-    → (x : Name) × (slice_get cs n ≡ Some (x, y))
-numbered-choice source good cs (inl (z, d, ts, named, is)) k y n i j =
-    let (m, x, at, same) = found-at cs k y i in
-    let (q, get, e) = get-mapped (λ (k : ProtocolConstructor). let p : Choice = (k.name.name, line d.local d.name d.parameters ts k.channel_type) in p) d.constructors m (x, y) (ap (λ bs. slice_get bs m) (sym is) ∙ at) in
-    let name : k ≡ q.name.name = same-is k x same ∙ ap (λ (p : Choice). p.0) (sym e) in
-    let known : constructor_named (world_of source) k ≡ Some (OfProtocol d m q) = subst (λ x. constructor_named (world_of source) x ≡ Some (OfProtocol d m q)) (sym name) (protocols-are-known source good z d m q named get) in
-    let number : Some m ≡ Some n = sym (ap (option_map number_in) known) ∙ j in
-    let mn : m ≡ n = cc number in
-    (x, subst (λ m. slice_get cs m ≡ Some (x, y)) mn at)
-numbered-choice source good cs (inr (z, d, ts, named, is)) k y n i j =
-    let (m, x, at, same) = found-at cs k y i in
-    let (q, get, e) = get-mapped (λ (k : CoprotocolConstructor). let p : Choice = (k.name.name, line d.local d.name d.parameters ts k.channel_type) in p) d.constructors m (x, y) (ap (λ bs. slice_get bs m) (sym is) ∙ at) in
-    let name : k ≡ q.name.name = same-is k x same ∙ ap (λ (p : Choice). p.0) (sym e) in
-    let known : constructor_named (world_of source) k ≡ Some (OfCoprotocol d m q) = subst (λ x. constructor_named (world_of source) x ≡ Some (OfCoprotocol d m q)) (sym name) (coprotocols-are-known source good z d m q named get) in
-    let number : Some m ≡ Some n = sym (ap (option_map number_in) known) ∙ j in
-    let mn : m ≡ n = cc number in
-    (x, subst (λ m. slice_get cs m ≡ Some (x, y)) mn at)
+module _ (w : World) (protocols : ProtocolsAreKnown w) (coprotocols : CoprotocolsAreKnown w) where
+  -- the constructor's number is the place of its choice
+  pub numbered-choice : (cs : Choices) → AreChoices w cs → (k : Name) (y : ChanType) (n : ℕ) → found k cs ≡ Some y → number_of w k ≡ Some n
+      → (x : Name) × (slice_get cs n ≡ Some (x, y))
+  numbered-choice cs (inl (z, d, ts, named, is)) k y n i j =
+      let (m, x, at, same) = found-at cs k y i in
+      let (q, get, e) = get-mapped (λ (k : ProtocolConstructor). let p : Choice = (k.name.name, line d.local d.name d.parameters ts k.channel_type) in p) d.constructors m (x, y) (ap (λ bs. slice_get bs m) (sym is) ∙ at) in
+      let name : k ≡ q.name.name = same-is k x same ∙ ap (λ (p : Choice). p.0) (sym e) in
+      let known : constructor_named w k ≡ Some (OfProtocol d m q) = subst (λ x. constructor_named w x ≡ Some (OfProtocol d m q)) (sym name) (protocols z d m q named get) in
+      let number : Some m ≡ Some n = sym (ap (option_map number_in) known) ∙ j in
+      let mn : m ≡ n = cc number in
+      (x, subst (λ m. slice_get cs m ≡ Some (x, y)) mn at)
+  numbered-choice cs (inr (z, d, ts, named, is)) k y n i j =
+      let (m, x, at, same) = found-at cs k y i in
+      let (q, get, e) = get-mapped (λ (k : CoprotocolConstructor). let p : Choice = (k.name.name, line d.local d.name d.parameters ts k.channel_type) in p) d.constructors m (x, y) (ap (λ bs. slice_get bs m) (sym is) ∙ at) in
+      let name : k ≡ q.name.name = same-is k x same ∙ ap (λ (p : Choice). p.0) (sym e) in
+      let known : constructor_named w k ≡ Some (OfCoprotocol d m q) = subst (λ x. constructor_named w x ≡ Some (OfCoprotocol d m q)) (sym name) (coprotocols z d m q named get) in
+      let number : Some m ≡ Some n = sym (ap (option_map number_in) known) ∙ j in
+      let mn : m ≡ n = cc number in
+      (x, subst (λ m. slice_get cs m ≡ Some (x, y)) mn at)
 
--- and a choice that stands somewhere has this place as its number
-pub choice-number : (source : Program) → IsWellDeclared source → (cs : Choices) → AreChoices (world_of source) cs → (n : ℕ) (x : Name) (y : ChanType) → slice_get cs n ≡ Some (x, y) → number_of (world_of source) x ≡ Some n
-choice-number source good cs (inl (z, d, ts, named, is)) n x y at =
-    let (q, get, e) = get-mapped (λ (k : ProtocolConstructor). let p : Choice = (k.name.name, line d.local d.name d.parameters ts k.channel_type) in p) d.constructors n (x, y) (ap (λ bs. slice_get bs n) (sym is) ∙ at) in
-    ap (option_map number_in) (subst (λ x. constructor_named (world_of source) x ≡ Some (OfProtocol d n q)) (ap (λ (p : Choice). p.0) e) (protocols-are-known source good z d n q named get))
-choice-number source good cs (inr (z, d, ts, named, is)) n x y at =
-    let (q, get, e) = get-mapped (λ (k : CoprotocolConstructor). let p : Choice = (k.name.name, line d.local d.name d.parameters ts k.channel_type) in p) d.constructors n (x, y) (ap (λ bs. slice_get bs n) (sym is) ∙ at) in
-    ap (option_map number_in) (subst (λ x. constructor_named (world_of source) x ≡ Some (OfCoprotocol d n q)) (ap (λ (p : Choice). p.0) e) (coprotocols-are-known source good z d n q named get))
+  -- and a choice that stands somewhere has this place as its number
+  pub choice-number : (cs : Choices) → AreChoices w cs → (n : ℕ) (x : Name) (y : ChanType) → slice_get cs n ≡ Some (x, y) → number_of w x ≡ Some n
+  choice-number cs (inl (z, d, ts, named, is)) n x y at =
+      let (q, get, e) = get-mapped (λ (k : ProtocolConstructor). let p : Choice = (k.name.name, line d.local d.name d.parameters ts k.channel_type) in p) d.constructors n (x, y) (ap (λ bs. slice_get bs n) (sym is) ∙ at) in
+      ap (option_map number_in) (subst (λ x. constructor_named w x ≡ Some (OfProtocol d n q)) (ap (λ (p : Choice). p.0) e) (protocols z d n q named get))
+  choice-number cs (inr (z, d, ts, named, is)) n x y at =
+      let (q, get, e) = get-mapped (λ (k : CoprotocolConstructor). let p : Choice = (k.name.name, line d.local d.name d.parameters ts k.channel_type) in p) d.constructors n (x, y) (ap (λ bs. slice_get bs n) (sym is) ∙ at) in
+      ap (option_map number_in) (subst (λ x. constructor_named w x ≡ Some (OfCoprotocol d n q)) (ap (λ (p : Choice). p.0) e) (coprotocols z d n q named get))
 
-pub found-number : (source : Program) → IsWellDeclared source → (cs : Choices) → AreChoices (world_of source) cs → (k : Name) (y : ChanType) → found k cs ≡ Some y → (n : ℕ) × (number_of (world_of source) k ≡ Some n)
-found-number source good cs are k y i =
-    let (n, x, at, same) = found-at cs k y i in
-    (n, subst (λ x. number_of (world_of source) x ≡ Some n) (sym (same-is k x same)) (choice-number source good cs are n x y at))
+  pub found-number : (cs : Choices) → AreChoices w cs → (k : Name) (y : ChanType) → found k cs ≡ Some y → (n : ℕ) × (number_of w k ≡ Some n)
+  found-number cs are k y i =
+      let (n, x, at, same) = found-at cs k y i in
+      (n, subst (λ x. number_of w x ≡ Some n) (sym (same-is k x same)) (choice-number cs are n x y at))
