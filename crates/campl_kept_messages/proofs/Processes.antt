@@ -227,7 +227,7 @@ module _ (source : Program) (c : Configuration) (l : Lawful source c) (p : Path)
 
         go : (e : End) → found x.name r.ends ≡ Some e → Does c (Process p) (Looks true e (on_pick (λ n. option_map (λ body. onward r (Doing body) r.variables r.ends) (row_picked w n rows)))) d → Lawful source d
         go e he (z, m, ms, st, pz, first, fits, looked) =
-            let ((s, u, cs, hx, offers, each, rowed), trees) = well-now (b.Hcase at x rows) term in
+            let ((s, u, cs, hx, offers, each, rowed, some), trees) = well-now (b.Hcase at x rows) term in
             let ce : l.channel e ≡ Some (On s u) = channel-of x.name e he (On s u) hx in
             let (n, takes) = first-taken e z s u m ms ce pz first in
             let (j, name, y, pick, choice, may) = may-offer w s u cs m n offers takes in
