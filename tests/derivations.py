@@ -1,10 +1,12 @@
 #!/usr/bin/env python3
-"""Writes the trees of accepted sources, and derivations of their typing, for the crate typed_sources:
+"""Writes the trees of typed sources, and derivations of their typing, for the crate typed_sources:
 
     derivations.py crates/typed_sources    for each data/NAME.campl its tree in specs/ and its derivation in proofs/, for each
-                                           data/refused/NAME.campl its tree, and the laws in src/ with their answers
+                                           data/no_tree/NAME.campl, which is typed and has a plug that is no tree, the same,
+                                           for each data/refused/NAME.campl its tree, and the laws in src/ with their answers
 
-The prover judges what is written: a wrong type or derivation is refused. That a source has no derivation is proved by hand.
+The prover judges what is written: a wrong type, derivation or fault is refused. That a source whose fault is one of processes
+has no derivation is proved by hand.
 """
 
 import pathlib
@@ -13,6 +15,7 @@ import sys
 
 import trees as t
 from antt_trees import bare, binder, body, chan_type, expr, ident, idents, patterns, place, plain_list, seq_type
+from functions import answer
 from names import PRELUDE
 from trees import tree_of
 from typing_linear import process_term
@@ -35,7 +38,7 @@ MODULES = [
 ]
 
 # the lemmas, in their order
-LEMMAS = ["Within", "Divided", "Actions", "Lasts", "Undone"]
+LEMMAS = ["Within", "Divided", "Actions", "Lasts", "Undone", "Faulted"]
 
 COMMANDS = ["put", "get", "hput", "split", "close", "halt", "halt-alone"]
 LASTS = ["hcase", "row", "no-rows", "fork", "plug", "part", "no-parts", "race", "branch", "no-branches"]
@@ -190,49 +193,80 @@ def write(path, text):
     path.write_text(text, encoding="utf-8")
 
 
-def law(name, refused):
+def told(fault):
+    """What judging a source's functions answers, as a term: a fault by its line, which the reference in functions.py gives."""
+    if fault == "typed":
+        return "Is fine"
+    name, line, column, rest = re.fullmatch(r"E\d\d (\w+) at (\d+):(\d+)(?:: (.*))?", fault).groups()
+    details = re.fullmatch({
+        "TypeDiffers": r"found (.*), wanted (.*)",
+        "NeedsType": r"",
+        "NotExhaustive": r"missing (.*)",
+        "ArgumentCount": r"found (\d+), wanted (\d+)",
+        "NameTwiceInPattern": r"name (.*)",
+    }[name], rest or "").groups()
+    words = details if name == "ArgumentCount" else [f'(codes "{x}")' for x in details]
+    return f"Fails ({' '.join([name, f'(place {line} {column})', *words])})"
+
+
+def law(folder, name, source):
     """The law's name, and its text."""
-    told, fact = (f"law_{name}_is_refused", "IsIllTyped") if refused else (f"law_{name}", "IsTyped")
-    doc = f"`data/refused/{name}.campl` is ill-typed." if refused else f"`data/{name}.campl` is typed."
-    return told, f"/// {doc}\npub fn {told}()\n    ensures {{ {fact} {name} }}\n{{}}"
+    path = f"`{folder}/{name}.campl`"
+    if folder != "data/refused":
+        doc = f"{path} is typed" + (", though its plug is no tree." if folder == "data/no_tree" else ".")
+        return f"law_{name}", f"/// {doc}\npub fn law_{name}()\n    ensures {{ IsTyped {name} }}\n{{}}"
+    fault = answer(source)
+    why = "its functions are fine, and its processes aren't" if fault == "typed" else fault
+    own = f"law_{name}_is_refused"
+    return own, f"/// {path} is ill-typed: {why}.\npub fn {own}()\n    ensures {{ IsIllTyped {name} ({told(fault)}) }}\n{{}}"
 
 
-def write_laws(crate, names, refused):
-    file, kind = ("refusals", "refused") if refused else ("laws", "accepted")
-    about = f"//! The laws of {kind} sources, functions with nothing to do, whose contracts they are."
-    word = f"{SOURCES}.specs.IllTyped.{{IsIllTyped}}" if refused else f"{TYPES}.Typed.{{IsTyped}}"
-    uses = [f"ghost use {x};" for x in [word, *(f"{SOURCES}.specs.{camel(name)}.{{{name}}}" for name in names)]]
-    laws = [law(name, refused)[1] for name in names]
-    write(crate / f"src/{file}.rt", "\n".join([about, *uses]) + "\n\n" + "\n\n".join(laws) + "\n")
-    for name in names:
-        write_answer(crate, name, f"{file}.{law(name, refused)[0]}", refused)
+FAULTS = "Rattle.campl_seqcheck.specs.declared.fault.SeqFault.TheVariants.{TypeDiffers, NeedsType, NotExhaustive, ArgumentCount, NameTwiceInPattern}"
 
 
-def write_answer(crate, name, own, refused):
-    word, answer = ("refused", "(refl, refused)") if refused else ("typed", "typed")
+def write_laws(crate, file, about, words, sources):
+    uses = [f"ghost use {x};" for x in [*words, *(f"{SOURCES}.specs.{camel(name)}.{{{name}}}" for _, name, _, _ in sorted(sources, key=lambda x: x[1]))]]
+    laws = [law(folder, name, source) for folder, name, source, _ in sources]
+    write(crate / f"src/{file}.rt", "\n".join([about, *uses]) + "\n\n" + "\n\n".join(x[1] for x in laws) + "\n")
+    for (folder, name, source, _), (own, _) in zip(sources, laws):
+        write_answer(crate, name, f"{file}.{own}", folder == "data/refused", folder == "data/refused" and answer(source) != "typed")
+
+
+def write_answer(crate, name, own, refused, faulted):
     uses = "use Rattle.std.proofs.Common.{refl}\n" if refused else ""
-    uses += f"use {SOURCES}.proofs.{camel(name)}.{{{word}}}\nuse {SOURCES}.proofs.{own}.Goals as goal\n"
-    write(crate / f"proofs/{own.replace('.', '/')}/Answers.antt", f"{uses}\npub returns : goal.returns\nreturns c = {answer}\n")
+    if faulted:
+        uses += f"use {SOURCES}.specs.{camel(name)}.{{{name}}}\nuse {SOURCES}.proofs.Faulted.{{ill-typed}}\n"
+        term = f"ill-typed {name} _ refl refl"
+    else:
+        word, term = ("refused", "(refl, refused, refl)") if refused else ("typed", "typed")
+        uses += f"use {SOURCES}.proofs.{camel(name)}.{{{word}}}\n"
+    uses += f"use {SOURCES}.proofs.{own}.Goals as goal\n"
+    write(crate / f"proofs/{own.replace('.', '/')}/Answers.antt", f"{uses}\npub returns : goal.returns\nreturns c = {term}\n")
 
 
-def read(path):
-    source = path.read_text(encoding="utf-8")
-    return path.stem, source, tree_of(source)
+def read(crate, folder):
+    """The sources of a folder, each with its name and its declarations."""
+    for path in sorted((crate / folder).glob("*.campl")):
+        source = path.read_text(encoding="utf-8")
+        yield folder, path.stem, source, tree_of(source)
 
 
 def main(words):
     crate = pathlib.Path(words[0])
-    accepted = [read(path) for path in sorted((crate / "data").glob("*.campl"))]
-    refused = [read(path) for path in sorted((crate / "data/refused").glob("*.campl"))]
-    for name, source, declarations in accepted + refused:
+    typed = [*read(crate, "data"), *read(crate, "data/no_tree")]
+    refused = [*read(crate, "data/refused")]
+    for _, name, source, declarations in typed + refused:
         write(crate / f"specs/{camel(name)}.antt", tree_file(name, source, declarations))
-    for name, _, declarations in accepted:
+    for _, name, _, declarations in typed:
         write(crate / f"proofs/{camel(name)}.antt", proof_file(name, declarations))
-    write_laws(crate, [x[0] for x in accepted], False)
-    write_laws(crate, [x[0] for x in refused], True)
-    modules = [camel(x[0]) for x in accepted + refused]
-    write(crate / "specs/Lib.antt", "".join(f"pub mod {x}\n" for x in ["Trees", "IllTyped", *modules]))
-    write(crate / "proofs/Lib.antt", "".join(f"pub mod {x}\n" for x in [*LEMMAS, *modules]))
+    about = "//! The laws of {} sources, functions with nothing to do, whose contracts they are."
+    write_laws(crate, "laws", about.format("typed"), [f"{TYPES}.Typed.{{IsTyped}}"], typed)
+    judged = ["Rattle.std.specs.Prelude.{codes}", "Rattle.campl_seqcheck.specs.Judged.{Is, Fails, fine}", FAULTS]
+    write_laws(crate, "refusals", about.format("refused"), [*judged, f"{SOURCES}.specs.IllTyped.{{IsIllTyped}}", f"{SOURCES}.specs.Trees.{{place}}"], refused)
+    trees = [camel(x[1]) for x in typed + refused]
+    proofs = [camel(x[1]) for x in typed] + [camel(name) for _, name, source, _ in refused if answer(source) == "typed"]
+    write(crate / "specs/Lib.antt", "".join(f"pub mod {x}\n" for x in ["Trees", "IllTyped", *trees]))
+    write(crate / "proofs/Lib.antt", "".join(f"pub mod {x}\n" for x in [*LEMMAS, *proofs]))
 
 
 if __name__ == "__main__":

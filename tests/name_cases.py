@@ -290,7 +290,7 @@ def large_cases():
 
 def worked_cases():
     """Whole sources, those of the crate typed_sources among them, whose names are all in order."""
-    for folder in (".", "../examples", "../crates/typed_sources/data", "../crates/typed_sources/data/refused"):
+    for folder in (".", "../examples", "../crates/typed_sources/data", "../crates/typed_sources/data/no_tree", "../crates/typed_sources/data/refused"):
         for path in sorted(glob.glob(os.path.join(HERE, folder, "*.campl"))):
             yield os.path.splitext(os.path.basename(path))[0].replace("_", " "), OK, text_of(path)
 

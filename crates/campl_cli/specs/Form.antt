@@ -55,9 +55,9 @@ behind front (Some texts) = Some (front ++ texts)
 behind front None = None
 
 -- the channel that a last command halts
-abbrev pub halted : b.Body → Option Ident
-halted (b.Halt at channel) = channel
-halted _ = None
+abbrev pub halted_channel : b.Body → Option Ident
+halted_channel (b.Halt at channel) = channel
+halted_channel _ = None
 
 -- the texts that commands print on the channel x, where they do nothing else before x is closed and halted
 abbrev pub printed_on : List ℕ → List b.Action → Option Ident → Option (List (List ℕ))
@@ -87,7 +87,7 @@ has_heading p = is (codes "run") p.name && is_empty p.parameters && is_one_conso
 -- the name and the texts of a body that prints on this input
 abbrev pub printed_by_body : Ident → Body → Option Prints
 printed_by_body x body =
-    option_map (λ texts. record { console = x.name; texts = texts }) (printed_on x.name (map view_action (out-Body body).actions) (halted (view_last (out-Body body).last)))
+    option_map (λ texts. record { console = x.name; texts = texts }) (printed_on x.name (map view_action (out-Body body).actions) (halted_channel (view_last (out-Body body).last)))
 
 -- the same of a row `| NAME => -> BODY`
 abbrev pub printed_by_row : List Ident → Body → Option Prints

@@ -15,7 +15,7 @@ pub struct SourceFault {
 }
 
 /// What a fault tells beside its place.
-#[derive(Debug, Drop, Error)]
+#[derive(Debug, Error)]
 pub enum Detail {
     #[error("")]
     Nothing,
@@ -25,6 +25,19 @@ pub enum Detail {
     /// A number that was found where another is wanted.
     #[error(": found {found}, wanted {wanted}")]
     Counted { found: usize, wanted: usize },
+}
+
+impl Drop for Detail {
+    fn drop(self) {
+        match self {
+            Detail::Named(name) => drop(name),
+            Detail::Nothing
+            | Detail::Counted {
+                found: _,
+                wanted: _,
+            } => (),
+        }
+    }
 }
 
 /// What is wrong of a source. `docs/LANGUAGE.md` lists the numbers and the places.

@@ -4,10 +4,10 @@ ghost use Rattle.campl_tree.specs.View.{view_program};
 ghost use Rattle.campl_types.specs.WellDeclared.{IsWellDeclared};
 ghost use Rattle.campl_cli.specs.Source.{refusal_of_naming, IsRefusedForNames};
 
-use crate::fault::{Detail, FaultKind, SourceFault};
+use crate::fault::FaultKind;
 use crate::refusal::Refusal;
 use campl_names::declare;
-use campl_tree::{Name, Place, Program};
+use campl_tree::Program;
 use campl_types::NameFault;
 use std::alloc::Global;
 
@@ -26,38 +26,16 @@ fn refusal_of(fault: NameFault) -> Refusal
     ensures { result ≡ refusal_of_naming fault }
 {
     match fault {
-        NameFault::Twice { place, name } => named(FaultKind::Twice, place, name),
-        NameFault::Unknown { place, name } => named(FaultKind::Unknown, place, name),
-        NameFault::WrongKind { place, name } => named(FaultKind::WrongKind, place, name),
+        NameFault::Twice { place, name } => Refusal::of_name(FaultKind::Twice, place, name),
+        NameFault::Unknown { place, name } => Refusal::of_name(FaultKind::Unknown, place, name),
+        NameFault::WrongKind { place, name } => Refusal::of_name(FaultKind::WrongKind, place, name),
         NameFault::TypeArguments {
             place,
             found,
             wanted,
-        } => refusal(
-            FaultKind::TypeArguments,
-            place,
-            Detail::Counted { found, wanted },
-        ),
-        NameFault::NoRun { place } => refusal(FaultKind::NoRun, place, Detail::Nothing),
-        NameFault::RunNotService { place } => {
-            refusal(FaultKind::RunNotService, place, Detail::Nothing)
-        }
+        } => Refusal::of_numbers(FaultKind::TypeArguments, place, found, wanted),
+        NameFault::NoRun { place } => Refusal::at(FaultKind::NoRun, place),
+        NameFault::RunNotService { place } => Refusal::at(FaultKind::RunNotService, place),
         NameFault::OutOfMemory => Refusal::OutOfMemory,
     }
-}
-
-fn refusal(kind: FaultKind, place: Place, detail: Detail) -> Refusal
-    ensures { result ≡ Refusal.Source (record { kind = kind; place = place; detail = detail }) }
-{
-    Refusal::Source(SourceFault {
-        kind,
-        place,
-        detail,
-    })
-}
-
-fn named(kind: FaultKind, place: Place, name: Name) -> Refusal
-    ensures { result ≡ Refusal.Source (record { kind = kind; place = place; detail = Detail.Named name }) }
-{
-    refusal(kind, place, Detail::Named(name))
 }

@@ -2,14 +2,15 @@
 ghost use Rattle.std.specs.Prelude.{◌≡◌};
 ghost use Rattle.campl_cli.specs.Refusals.{status_of};
 
-use crate::fault::SourceFault;
+use crate::fault::{Detail, FaultKind, SourceFault};
+use campl_tree::{Name, Place};
 use thiserror::Error;
 
 /// The most bytes that a source has.
 pub const SOURCE_LIMIT: u64 = 1_048_576;
 
 /// Why a command ended before its run.
-#[derive(Debug, Drop, Error)]
+#[derive(Debug, Error)]
 pub enum Refusal {
     /// The words are no command.
     #[error("bad command line")]
@@ -34,7 +35,54 @@ pub enum Refusal {
     OutOfMemory,
 }
 
+impl Drop for Refusal {
+    fn drop(self) {
+        match self {
+            Refusal::Source(fault) => drop(fault),
+            Refusal::BadCommandLine
+            | Refusal::TooLong
+            | Refusal::NotUtf8 { at: _ }
+            | Refusal::NotBuilt
+            | Refusal::ReadFault
+            | Refusal::OutOfMemory => (),
+        }
+    }
+}
+
 impl Refusal {
+    /// The source has this fault, of which nothing is told but its place.
+    pub(crate) fn at(kind: FaultKind, place: Place) -> Refusal
+        ensures { result ≡ Refusal.Source (record { kind = kind; place = place; detail = Detail.Nothing }) }
+    {
+        Refusal::Source(SourceFault {
+            kind,
+            place,
+            detail: Detail::Nothing,
+        })
+    }
+
+    /// The source has this fault of a name.
+    pub(crate) fn of_name(kind: FaultKind, place: Place, name: Name) -> Refusal
+        ensures { result ≡ Refusal.Source (record { kind = kind; place = place; detail = Detail.Named name }) }
+    {
+        Refusal::Source(SourceFault {
+            kind,
+            place,
+            detail: Detail::Named(name),
+        })
+    }
+
+    /// The source has this fault of numbers.
+    pub(crate) fn of_numbers(kind: FaultKind, place: Place, found: usize, wanted: usize) -> Refusal
+        ensures { result ≡ Refusal.Source (record { kind = kind; place = place; detail = Detail.Counted found wanted }) }
+    {
+        Refusal::Source(SourceFault {
+            kind,
+            place,
+            detail: Detail::Counted { found, wanted },
+        })
+    }
+
     /// The exit status that goes with it.
     pub fn status(&self) -> u8
         ensures { result ≡ status_of self.now }

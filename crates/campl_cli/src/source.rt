@@ -6,41 +6,29 @@ ghost use Rattle.campl_words.specs.Words.{IsCut};
 ghost use Rattle.campl_tree.specs.declared.place.Place.{Place};
 ghost use Rattle.campl_tree.specs.declared.decl.Program.{Program};
 ghost use Rattle.campl_cli.specs.Source.{HasTokens, HasLayout, HasTree, IsTextFault, IsTreeRefusal, refusal_of_lexing};
-ghost use Rattle.campl_cli.specs.declared.fault.Detail.TheVariants.{Nothing};
 ghost use Rattle.campl_cli.specs.declared.fault.FaultKind.{FaultKind};
 
-use crate::fault::{Detail, FaultKind, SourceFault};
+use crate::fault::FaultKind;
 use crate::refusal::Refusal;
 use campl_lex::{LexFault, Token, end_of, layout, lex};
 use campl_parse::{ParseFault, parse};
 use campl_text::Text;
-use campl_tree::{Place, Program};
+use campl_tree::Program;
 use std::alloc::Global;
-
-// A refusal for this fault at this place.
-fn refusal(kind: FaultKind, place: Place) -> Refusal
-    ensures { result ≡ Refusal.Source (record { kind = kind; place = place; detail = Nothing }) }
-{
-    Refusal::Source(SourceFault {
-        kind,
-        place,
-        detail: Detail::Nothing,
-    })
-}
 
 // The refusal for a fault of tokens or of layout.
 fn refusal_of(fault: LexFault) -> Refusal
     ensures { result ≡ refusal_of_lexing fault }
 {
     match fault {
-        LexFault::BadCharacter { place } => refusal(FaultKind::BadCharacter, place),
-        LexFault::OpenString { place } => refusal(FaultKind::OpenString, place),
-        LexFault::BadEscape { place } => refusal(FaultKind::BadEscape, place),
-        LexFault::NumberTooLarge { place } => refusal(FaultKind::NumberTooLarge, place),
-        LexFault::NameTooLong { place } => refusal(FaultKind::NameTooLong, place),
-        LexFault::Tab { place } => refusal(FaultKind::Tab, place),
-        LexFault::BadColumn { place } => refusal(FaultKind::BadColumn, place),
-        LexFault::TextTooLong { place } => refusal(FaultKind::TextTooLong, place),
+        LexFault::BadCharacter { place } => Refusal::at(FaultKind::BadCharacter, place),
+        LexFault::OpenString { place } => Refusal::at(FaultKind::OpenString, place),
+        LexFault::BadEscape { place } => Refusal::at(FaultKind::BadEscape, place),
+        LexFault::NumberTooLarge { place } => Refusal::at(FaultKind::NumberTooLarge, place),
+        LexFault::NameTooLong { place } => Refusal::at(FaultKind::NameTooLong, place),
+        LexFault::Tab { place } => Refusal::at(FaultKind::Tab, place),
+        LexFault::BadColumn { place } => Refusal::at(FaultKind::BadColumn, place),
+        LexFault::TextTooLong { place } => Refusal::at(FaultKind::TextTooLong, place),
         LexFault::OutOfMemory => Refusal::OutOfMemory,
     }
 }
@@ -78,8 +66,8 @@ pub fn tree_of(alloc: Global, text: &Text) -> Result<Program, Refusal>
     let laid = layout_of(alloc, text)?;
     match parse(alloc, text, &laid) {
         Ok(program) => Ok(program),
-        Err(ParseFault::Unexpected { place }) => Err(refusal(FaultKind::Unexpected, place)),
-        Err(ParseFault::TooDeep { place }) => Err(refusal(FaultKind::TooDeep, place)),
+        Err(ParseFault::Unexpected { place }) => Err(Refusal::at(FaultKind::Unexpected, place)),
+        Err(ParseFault::TooDeep { place }) => Err(Refusal::at(FaultKind::TooDeep, place)),
         Err(ParseFault::OutOfMemory) => Err(Refusal::OutOfMemory),
     }
 }

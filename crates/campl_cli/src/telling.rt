@@ -1,8 +1,8 @@
 //! Tells a refusal on the stream of errors.
-ghost use Rattle.std.specs.Prelude.{◌≡◌, ◌≢◌, ◌⊎◌, ◌++◌, ◌∷◌, [], codes, IfOk, string_bytes};
+ghost use Rattle.std.specs.Prelude.{◌≡◌, ◌≢◌, ◌⊎◌, ◌++◌, ◌∷◌, [], codes, IfOk, MatchOption, string_bytes};
 ghost use Rattle.std.specs.Fmt.{decimal};
 ghost use Rattle.campl_cli.specs.Faults.{message_of_detail};
-ghost use Rattle.campl_cli.specs.Refusals.{line_of, status_of};
+ghost use Rattle.campl_cli.specs.Refusals.{TakesMemory, line_of, status_of};
 ghost use Rattle.campl_cli.specs.Answer.{stream, IsTold, IsRefused, HasNoRun};
 
 use crate::fault::{Detail, SourceFault};
@@ -20,42 +20,53 @@ pub const WRITE_FAULT: u8 = 6;
 pub fn refuse<E: Sink>(alloc: Global, refusal: Refusal, err: &mut E) -> Report
     ensures { IsRefused refusal (stream E.written E.faults err.old err.new) result }
 {
-    match refusal {
-        Refusal::BadCommandLine => tell(alloc, refusal, "campl: bad command line\n", err),
-        Refusal::TooLong => tell(
-            alloc,
-            refusal,
-            "campl: source is longer than 1048576 bytes\n",
-            err,
-        ),
-        Refusal::NotUtf8 { at } => refuse_bytes(alloc, at, err),
-        Refusal::Source(fault) => refuse_source(alloc, fault, err),
-        Refusal::NotBuilt => tell(alloc, refusal, "campl: E60 NotBuilt at 1:1\n", err),
-        Refusal::ReadFault => tell(alloc, refusal, "campl: read fault\n", err),
-        Refusal::OutOfMemory => tell(alloc, refusal, OUT_OF_MEMORY_LINE, err),
+    match standing_line(&refusal) {
+        Some(line) => tell(alloc, &refusal, line, err),
+        None => refuse_at_length(alloc, &refusal, err),
     }
 }
 
-/// The line that tells want of memory; writing it takes none.
+/// The line that tells want of memory.
 const OUT_OF_MEMORY_LINE: &str = "campl: out of memory\n";
 
-// The source isn't UTF-8 from this byte on.
-fn refuse_bytes<E: Sink>(alloc: Global, at: u64, err: &mut E) -> Report
-    ensures { IsRefused (Refusal.NotUtf8 at) (stream E.written E.faults err.old err.new) result }
+// The line of a refusal, where it takes no memory.
+fn standing_line(refusal: &Refusal) -> Option<&'static str>
+    ensures { MatchOption result (TakesMemory refusal.now) (λ line. line.now ≡ line_of refusal.now) }
 {
-    match format!(in alloc; "campl: source isn't UTF-8 at byte {at}\n") {
-        Ok(line) => tell(alloc, Refusal::NotUtf8 { at }, line.as_str(), err),
-        Err(_) => tell(alloc, Refusal::OutOfMemory, OUT_OF_MEMORY_LINE, err),
+    match refusal {
+        Refusal::BadCommandLine => Some("campl: bad command line\n"),
+        Refusal::TooLong => Some("campl: source is longer than 1048576 bytes\n"),
+        Refusal::NotBuilt => Some("campl: E60 NotBuilt at 1:1\n"),
+        Refusal::ReadFault => Some("campl: read fault\n"),
+        Refusal::OutOfMemory => Some(OUT_OF_MEMORY_LINE),
+        Refusal::NotUtf8 { .. } | Refusal::Source(_) => None,
     }
 }
 
-// The source has this first fault.
-fn refuse_source<E: Sink>(alloc: Global, fault: SourceFault, err: &mut E) -> Report
-    ensures { IsRefused (Refusal.Source fault) (stream E.written E.faults err.old err.new) result }
+// Writes a line that takes memory, or the one of want of memory.
+fn refuse_at_length<E: Sink>(alloc: Global, refusal: &Refusal, err: &mut E) -> Report
+    requires { TakesMemory refusal.now }
+    ensures { IsRefused refusal.now (stream E.written E.faults err.old err.new) result }
 {
-    match line_of_fault(alloc, &fault) {
-        Ok(line) => tell(alloc, Refusal::Source(fault), line.as_str(), err),
-        Err(_) => tell(alloc, Refusal::OutOfMemory, OUT_OF_MEMORY_LINE, err),
+    match made_line(alloc, refusal) {
+        Ok(line) => tell(alloc, refusal, line.as_str(), err),
+        Err(_) => tell(alloc, &Refusal::OutOfMemory, OUT_OF_MEMORY_LINE, err),
+    }
+}
+
+// The line of a refusal that takes memory.
+fn made_line(alloc: Global, refusal: &Refusal) -> Result<String, AllocError>
+    requires { TakesMemory refusal.now }
+    ensures { IfOk result (λ line. string_bytes line ≡ line_of refusal.now) }
+{
+    match refusal {
+        Refusal::NotUtf8 { at } => format!(in alloc; "campl: source isn't UTF-8 at byte {at}\n"),
+        Refusal::Source(fault) => line_of_fault(alloc, fault),
+        Refusal::BadCommandLine
+        | Refusal::TooLong
+        | Refusal::NotBuilt
+        | Refusal::ReadFault
+        | Refusal::OutOfMemory => unreachable!(),
     }
 }
 
@@ -100,13 +111,13 @@ fn spelled(
 }
 
 // Writes the line, and answers that nothing ran.
-fn tell<E: Sink>(alloc: Global, refusal: Refusal, line: &str, err: &mut E) -> Report
-    requires { line.now ≡ line_of refusal }
-    ensures { IsTold refusal (stream E.written E.faults err.old err.new) result }
+fn tell<E: Sink>(alloc: Global, refusal: &Refusal, line: &str, err: &mut E) -> Report
+    requires { line.now ≡ line_of refusal.now }
+    ensures { IsTold refusal.now (stream E.written E.faults err.old err.new) result }
 {
     match write_all_of(err, line.as_bytes()) {
         Ok(()) => nothing_ran(alloc, refusal.status()),
-        Err(_) => nothing_ran(alloc, status_unwritten(&refusal)),
+        Err(_) => nothing_ran(alloc, status_unwritten(refusal)),
     }
 }
 

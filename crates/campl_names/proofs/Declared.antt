@@ -2,7 +2,10 @@
 use Rattle.std.proofs.Common.{◌≡◌, ◌∙◌, refl, sym, ap, ℕ, suc, ◌+◌, ◌≤◌, Bool, true, false, ◌||◌, ◌&&◌, List, [], ◌∷◌, ◌++◌, append_assoc, append-nil, if◌then◌else◌, map, eqb, arith, eq-eqb, eqb-true, Result, Err}
 use Rattle.campl_tree.specs.declared.place.Ident.{Ident}
 use Rattle.campl_tree.specs.declared.decl.Decl.{Decl as Tree}
-use Rattle.campl_tree.specs.View.{view_decl}
+use Rattle.campl_tree.specs.declared.decl.DataConstructor.{DataConstructor}
+use Rattle.campl_tree.specs.declared.decl.ProtocolConstructor.{ProtocolConstructor}
+use Rattle.campl_tree.specs.declared.decl.CoprotocolConstructor.{CoprotocolConstructor}
+use Rattle.campl_tree.specs.View.{view_decl, view_data_constructor, view_protocol_constructor, view_coprotocol_constructor}
 use Rattle.campl_names.specs.Judges.{Judges}
 use Rattle.campl_tree.specs.Plain.Decl.{Decl, Data, Protocol, Coprotocol, Function, Process}
 use Rattle.campl_types.specs.declared.fault.NameFault.{NameFault}
@@ -10,9 +13,9 @@ use Rattle.campl_types.specs.declared.fault.NameFault.TheVariants.{Twice}
 use Rattle.campl_types.specs.Names.{Name, same_name, is_among}
 use Rattle.campl_names.specs.NameSet.{with_name}
 use Rattle.campl_types.specs.World.{names_of}
-use Rattle.campl_names.specs.Tables.{Spot, Spots, names_in, lines, data_names, protocol_names, coprotocol_names, type_spots, constructor_spots, lower_spots, again, all_again, decls_again}
+use Rattle.campl_names.specs.Tables.{Spot, Spots, names_in, line_spots, data_names, protocol_names, coprotocol_names, type_spots, constructor_spots, lower_spots, again, all_again, decls_again}
 use Rattle.campl_types.specs.Twice.{Space, Types, Constructors, Lowers, ParametersOf, same_space, in_space, declared_from, is_declared, twice_among}
-use Rattle.campl_names.proofs.Judged.{judged_on, judged_all, handed-on, same-faults}
+use Rattle.campl_names.proofs.Judged.{judged, judged_on, judged_all, handed-on, same-faults}
 
 pub names-behind : (t : Spots) (x : Name) (s : Spot) → names_in (t ++ (x, s) ∷ []) ≡ names_in t ++ x ∷ []
 names-behind [] x s = refl
@@ -147,7 +150,7 @@ lower-seen n y seen ts cs ls s =
 
 -- Tables
 
-lines-behind : (t : Spots) (n k : ℕ) (ys : List Ident) → names_in (t ++ lines n k ys) ≡ names_in t ++ names_of ys
+lines-behind : (t : Spots) (n k : ℕ) (ys : List Ident) → names_in (t ++ line_spots n k ys) ≡ names_in t ++ names_of ys
 lines-behind [] n k [] = refl
 lines-behind [] n k (y ∷ ys) = ap (λ r. y.name ∷ r) (lines-behind [] n (suc k) ys)
 lines-behind (e ∷ t) n k ys = ap (λ r. e.0 ∷ r) (lines-behind t n k ys)
@@ -157,7 +160,7 @@ none-behind [] = refl
 none-behind (e ∷ t) = ap (λ r. e ∷ r) (none-behind t)
 
 typed-tables : (n : ℕ) (y : Ident) (ps ks : List Ident) (seen : List Declared) (t c l : Spots) → IsSeen n seen (names_in t) (names_in c) (names_in l)
-    → IsSeen (suc n) (onto (typed n y ps ks) seen) (names_in (t ++ (y.name, (n, 0)) ∷ [])) (names_in (c ++ lines n 0 ks)) (names_in (l ++ []))
+    → IsSeen (suc n) (onto (typed n y ps ks) seen) (names_in (t ++ (y.name, (n, 0)) ∷ [])) (names_in (c ++ line_spots n 0 ks)) (names_in (l ++ []))
 typed-tables n y ps ks seen t c l s =
     let s2 = typed-seen n y ps ks seen (names_in t) (names_in c) (names_in l) s in
     rw (names-behind t y.name (n, 0), lines-behind c n 0 ks, none-behind l) s2
@@ -200,6 +203,21 @@ pub from-nothing : {A B : Type 0} (t c l : Spots) (es ds : List Tree) (fault : N
 from-nothing {A} {B} t c l es ds fault i j k m h =
     same-faults _ _ _ (handed-on {A = A} {B = B} _ fault h)
     ((λ n. decls_again (i n) (j n) (k n) 0 (map view_decl (m n))) ∙ sym (twice-by-tables (map view_decl ds)))
+
+-- the names of lines, which are the same in a tree and in its view
+pub data-named : (ks : List DataConstructor) → data_names (map view_data_constructor ks) ≡ map (λ (k : DataConstructor). k.name) ks
+data-named [] = refl
+data-named (k ∷ ks) = ap (λ r. k.name ∷ r) (data-named ks)
+
+pub protocol-named : (ks : List ProtocolConstructor) → protocol_names (map view_protocol_constructor ks) ≡ map (λ (k : ProtocolConstructor). k.name) ks
+protocol-named [] = refl
+protocol-named (k ∷ ks) = ap (λ r. k.name ∷ r) (protocol-named ks)
+
+pub coprotocol-named : (ks : List CoprotocolConstructor) → coprotocol_names (map view_coprotocol_constructor ks) ≡ map (λ (k : CoprotocolConstructor). k.name) ks
+coprotocol-named [] = refl
+coprotocol-named (k ∷ ks) = ap (λ r. k.name ∷ r) (coprotocol-named ks)
+
+pub ruleset declaration = (judged, data-named, protocol-named, coprotocol-named, append-nil)
 
 pub ruleset parameters = (judged_all, name-behind)
 

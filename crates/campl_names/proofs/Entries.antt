@@ -2,7 +2,7 @@
 use Rattle.std.proofs.Common.{◌≡◌, ◌∙◌, refl, sym, ap, ℕ, zero, suc, ◌+◌, Bool, true, false, List, [], ◌∷◌, ◌++◌, Option, Some, None, if◌then◌else◌, map, slice_get, option_map, arith}
 use Rattle.campl_tree.specs.Plain.Decl.{Decl, Data, Protocol, Coprotocol, Function, Process, DataDecl, DataConstructor, ProtocolDecl, ProtocolConstructor, CoprotocolDecl, CoprotocolConstructor}
 use Rattle.campl_types.specs.Names.{Name, same_name, found}
-use Rattle.campl_names.specs.Tables.{Spot, Spots, lines, data_names, protocol_names, coprotocol_names, type_spots, constructor_spots, lower_spots, spots}
+use Rattle.campl_names.specs.Tables.{Spot, Spots, line_spots, data_names, protocol_names, coprotocol_names, type_spots, constructor_spots, lower_spots, spots}
 use Rattle.campl_types.specs.World.{DataType, ProtocolType, CoprotocolType, type_entry, type_named, or_else, where_named, ConstructorEntry, OfData, OfProtocol, OfCoprotocol, among_data, among_protocol, among_coprotocol, constructor_named, AFunction, AProcess, lower_entry, lower_named}
 
 pub get-map : {A B : Type 0} → (f : A → B) (xs : List A) (n : ℕ) → slice_get (map f xs) n ≡ option_map f (slice_get xs n)
@@ -104,30 +104,30 @@ or-if false y now later = refl
 
 data-lines : (x : Name) (d : DataDecl) (n k : ℕ) (ks : List DataConstructor) (rest : Spots) (later : Option ConstructorEntry) (all : List Decl)
     → slice_get all n ≡ Some (Data d) → IsFrom k ks d.constructors → later ≡ line_at all (found x rest)
-    → or_else (among_data d k ks x) later ≡ line_at all (found x (lines n k (data_names ks) ++ rest))
+    → or_else (among_data d k ks x) later ≡ line_at all (found x (line_spots n k (data_names ks) ++ rest))
 data-lines x d n k [] rest later all i r j = j
 data-lines x d n k (y ∷ ks) rest later all i r j =
     let here : line_in (slice_get all n) k ≡ Some (OfData d k y) = rw i (ap (option_map (OfData d k)) (from-here k y ks d.constructors r)) in
     let more = data-lines x d n (suc k) ks rest later all i (from-next k y ks d.constructors r) j in
-    or-if (same_name x y.name.name) (OfData d k y) (among_data d (suc k) ks x) later ∙ line n k x (lines n (suc k) (data_names ks) ++ rest) _ all (same_name x y.name.name) (OfData d k y) here more
+    or-if (same_name x y.name.name) (OfData d k y) (among_data d (suc k) ks x) later ∙ line n k x (line_spots n (suc k) (data_names ks) ++ rest) _ all (same_name x y.name.name) (OfData d k y) here more
 
 protocol-lines : (x : Name) (d : ProtocolDecl) (n k : ℕ) (ks : List ProtocolConstructor) (rest : Spots) (later : Option ConstructorEntry) (all : List Decl)
     → slice_get all n ≡ Some (Protocol d) → IsFrom k ks d.constructors → later ≡ line_at all (found x rest)
-    → or_else (among_protocol d k ks x) later ≡ line_at all (found x (lines n k (protocol_names ks) ++ rest))
+    → or_else (among_protocol d k ks x) later ≡ line_at all (found x (line_spots n k (protocol_names ks) ++ rest))
 protocol-lines x d n k [] rest later all i r j = j
 protocol-lines x d n k (y ∷ ks) rest later all i r j =
     let here : line_in (slice_get all n) k ≡ Some (OfProtocol d k y) = rw i (ap (option_map (OfProtocol d k)) (from-here k y ks d.constructors r)) in
     let more = protocol-lines x d n (suc k) ks rest later all i (from-next k y ks d.constructors r) j in
-    or-if (same_name x y.name.name) (OfProtocol d k y) (among_protocol d (suc k) ks x) later ∙ line n k x (lines n (suc k) (protocol_names ks) ++ rest) _ all (same_name x y.name.name) (OfProtocol d k y) here more
+    or-if (same_name x y.name.name) (OfProtocol d k y) (among_protocol d (suc k) ks x) later ∙ line n k x (line_spots n (suc k) (protocol_names ks) ++ rest) _ all (same_name x y.name.name) (OfProtocol d k y) here more
 
 coprotocol-lines : (x : Name) (d : CoprotocolDecl) (n k : ℕ) (ks : List CoprotocolConstructor) (rest : Spots) (later : Option ConstructorEntry) (all : List Decl)
     → slice_get all n ≡ Some (Coprotocol d) → IsFrom k ks d.constructors → later ≡ line_at all (found x rest)
-    → or_else (among_coprotocol d k ks x) later ≡ line_at all (found x (lines n k (coprotocol_names ks) ++ rest))
+    → or_else (among_coprotocol d k ks x) later ≡ line_at all (found x (line_spots n k (coprotocol_names ks) ++ rest))
 coprotocol-lines x d n k [] rest later all i r j = j
 coprotocol-lines x d n k (y ∷ ks) rest later all i r j =
     let here : line_in (slice_get all n) k ≡ Some (OfCoprotocol d k y) = rw i (ap (option_map (OfCoprotocol d k)) (from-here k y ks d.constructors r)) in
     let more = coprotocol-lines x d n (suc k) ks rest later all i (from-next k y ks d.constructors r) j in
-    or-if (same_name x y.name.name) (OfCoprotocol d k y) (among_coprotocol d (suc k) ks x) later ∙ line n k x (lines n (suc k) (coprotocol_names ks) ++ rest) _ all (same_name x y.name.name) (OfCoprotocol d k y) here more
+    or-if (same_name x y.name.name) (OfCoprotocol d k y) (among_coprotocol d (suc k) ks x) later ∙ line n k x (line_spots n (suc k) (coprotocol_names ks) ++ rest) _ all (same_name x y.name.name) (OfCoprotocol d k y) here more
 
 constructors-from : (x : Name) (n : ℕ) (ds all : List Decl) → IsFrom n ds all → constructor_named ds x ≡ line_at all (found x (spots constructor_spots n ds))
 constructors-from x n [] all r = refl

@@ -6,8 +6,8 @@ use Rattle.campl_tree.specs.declared.types.SeqType.{SeqType}
 use Rattle.campl_tree.specs.View.{view_seq, seq_types}
 use Rattle.campl_tree.specs.Plain.ChanType.{Named}
 use Rattle.campl_names.proofs.Letters.{spelled-console, spelled-terminal}
-use Rattle.campl_types.specs.Names.{Name, same_name}
-use Rattle.campl_types.specs.Run.{is_type_named, is_empty}
+use Rattle.campl_types.specs.Names.{Name, same_name, is_empty}
+use Rattle.campl_types.specs.Run.{is_type_named}
 
 pub empty-none : {A : Type 0} → (xs : List A) → length xs ≡ 0 → is_empty xs ≡ true
 empty-none [] i = refl

@@ -11,7 +11,8 @@ use Rattle.campl_types.specs.Run.{run_faults}
 use Rattle.campl_types.specs.Twice.{twice_among, twice_faults, declared_from}
 use Rattle.campl_types.specs.WellDeclared.{name_faults}
 use Rattle.campl_types.specs.World.{world_of}
-use Rattle.campl_names.proofs.Judged.{judged, in-turn, stopped, same-faults}
+use Rattle.std.specs.Result.{IsErr, IsErrAnd}
+use Rattle.campl_names.proofs.Judged.{err-first, judged, in-turn, stopped, same-faults}
 
 pub ruleset rests = (drop_all)
 
@@ -40,8 +41,9 @@ pub whole-judged : {A B : Type 0} (source : Program) (ds ws : List Decl) (i : ma
 whole-judged source ds ws i e x r j k =
     whole source ds i x r j (subst (λ v. Judges (each (in_decl (map view_decl v)) (map view_decl (drop 2 v)) ++ run_faults (map view_decl v)) r) e k)
 
-pub twice-refused : {A B : Type 0} (source : Program) (ds : List Decl) (i : map view_decl ds ≡ world_of source) (fault : NameFault)
-    → Judges {A = A} (twice_among [] (declared_from 0 (map view_decl ds))) (Err fault) → Judges {A = B} (name_faults source) (Err fault)
-twice-refused {A} {B} source ds i fault j = stopped {A = A} {B = B} _ _ fault (stopped {A = A} {B = A} _ _ fault (twice source ds i (Err fault) j))
+pub twice-refused : {A B : Type 0} (source : Program) (ds : List Decl) (i : map view_decl ds ≡ world_of source) (fault : NameFault) (r : Result B NameFault)
+    → Judges {A = A} (twice_among [] (declared_from 0 (map view_decl ds))) (Err fault) → IsErr r × IsErrAnd r (λ e. e ≡ fault) → Judges {A = B} (name_faults source) r
+twice-refused {A} {B} source ds i fault r j told =
+    err-first {A = A} {B = B} _ (run_faults (world_of source)) fault r (stopped {A = A} {B = A} _ _ fault (twice source ds i (Err fault) j)) told
 
 pub ruleset declaring = (judged)

@@ -26,9 +26,9 @@ abbrev pub coprotocol_names : List CoprotocolConstructor → List Ident
 coprotocol_names = map (λ (k : CoprotocolConstructor). k.name)
 
 -- the lines of the n-th declaration from the k-th on
-abbrev pub lines : ℕ → ℕ → List Ident → Spots
-lines n k [] = []
-lines n k (x ∷ xs) = (x.name, (n, k)) ∷ lines n (suc k) xs
+abbrev pub line_spots : ℕ → ℕ → List Ident → Spots
+line_spots n k [] = []
+line_spots n k (x ∷ xs) = (x.name, (n, k)) ∷ line_spots n (suc k) xs
 
 abbrev pub heading_spot : ℕ → Ident → Spots
 heading_spot n x = (x.name, (n, 0)) ∷ []
@@ -41,9 +41,9 @@ type_spots n (Function d) = []
 type_spots n (Process d) = []
 
 abbrev pub constructor_spots : ℕ → Decl → Spots
-constructor_spots n (Data d) = lines n 0 (data_names d.constructors)
-constructor_spots n (Protocol d) = lines n 0 (protocol_names d.constructors)
-constructor_spots n (Coprotocol d) = lines n 0 (coprotocol_names d.constructors)
+constructor_spots n (Data d) = line_spots n 0 (data_names d.constructors)
+constructor_spots n (Protocol d) = line_spots n 0 (protocol_names d.constructors)
+constructor_spots n (Coprotocol d) = line_spots n 0 (coprotocol_names d.constructors)
 constructor_spots n (Function d) = []
 constructor_spots n (Process d) = []
 

@@ -27,10 +27,8 @@ pub fn declare(alloc: Global, program: Program) -> Result<World, NameFault>
     ensures world { IfOk result (λ w. map view_decl w ≡ world_of (view_program program)) }
 {
     let declarations = with_prelude(alloc, program)?;
-    match World::of(alloc, declarations) {
-        Ok(world) => judge_world(alloc, world),
-        Err(fault) => Err(fault),
-    }
+    let world = World::of(alloc, declarations)?;
+    judge_world(alloc, world)
 }
 
 /// The world, where nothing that its declarations use is at fault.

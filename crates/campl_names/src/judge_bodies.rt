@@ -86,8 +86,8 @@ fn judge_hcase_rows(
     ensures judged { Judges (in_hcase_rows (map view_decl world.now) scope.old (hcase_rows (map view_hcase_row rows.now))) result }
     ensures kept { OnOk result (scope.new ≡ scope.old) }
 {
-    for i in 0..rows.len() {
-        judge_hcase_row(alloc, world, scope, &rows[i])?;
+    for row in rows {
+        judge_hcase_row(alloc, world, scope, row)?;
     }
     Ok(())
 }
@@ -120,8 +120,8 @@ fn judge_branches(
     ensures judged { Judges (in_branches (map view_decl world.now) scope.old (branches (map view_branch rows.now))) result }
     ensures kept { OnOk result (scope.new ≡ scope.old) }
 {
-    for i in 0..rows.len() {
-        judge_branch(alloc, world, scope, &rows[i])?;
+    for row in rows {
+        judge_branch(alloc, world, scope, row)?;
     }
     Ok(())
 }
@@ -153,8 +153,8 @@ fn judge_case_rows(
     ensures judged { Judges (in_case_rows (map view_decl world.now) scope.old (case_rows (map view_case_row rows.now))) result }
     ensures kept { OnOk result (scope.new ≡ scope.old) }
 {
-    for i in 0..rows.len() {
-        judge_case_row(alloc, world, scope, &rows[i])?;
+    for row in rows {
+        judge_case_row(alloc, world, scope, row)?;
     }
     Ok(())
 }
@@ -191,8 +191,8 @@ fn judge_parts(
     ensures judged { Judges (in_parts (map view_decl world.now) scope.old (parts (map view_part all.now))) result }
     ensures kept { OnOk result (scope.new ≡ scope.old) }
 {
-    for i in 0..all.len() {
-        judge_part(alloc, world, scope, &all[i])?;
+    for part in all {
+        judge_part(alloc, world, scope, part)?;
     }
     Ok(())
 }
@@ -231,8 +231,8 @@ fn judge_links_under(
 ) -> Result<(), NameFault>
     ensures { Judges (each (λ (l : plain.Link). in_chan (map view_decl world.now) (heading parameters.now None) l.channel_type) (map view_link links.now)) result }
 {
-    for i in 0..links.len() {
-        judge_chan(alloc, world, parameters, None, &links[i].channel_type)?;
+    for link in links {
+        judge_chan(alloc, world, parameters, None, &link.channel_type)?;
     }
     Ok(())
 }
@@ -248,8 +248,8 @@ fn judge_actions(
     ensures judged { Judges (in_actions (map view_decl world.now) scope.old (map view_action actions.now)) result }
     ensures bound { OnOk result (scope.new ≡ behind_actions scope.old (map view_action actions.now)) }
 {
-    for i in 0..actions.len() {
-        judge_action(alloc, world, scope, &actions[i])?;
+    for action in actions {
+        judge_action(alloc, world, scope, action)?;
     }
     Ok(())
 }

@@ -1,9 +1,9 @@
 //! Whether the names in declarations are known and of their kind.
-ghost use Rattle.std.specs.Prelude.{◌≡◌, ◌++◌, [], None, Some, IfOk, OnOk, map};
+ghost use Rattle.std.specs.Prelude.{◌≡◌, ◌++◌, [], None, IfOk, OnOk, map};
 ghost use Rattle.campl_tree.specs.Plain.Decl as plain;
-ghost use Rattle.campl_tree.specs.View.{view_seq, seq_types, view_chan, view_decl, view_data, view_data_constructor, view_protocol, view_protocol_constructor, view_coprotocol, view_coprotocol_constructor, view_function, view_function_row, view_process};
+ghost use Rattle.campl_tree.specs.View.{view_seq, seq_types, view_chan, view_decl, view_data, view_data_constructor, view_protocol, view_coprotocol, view_function, view_function_row, view_process};
 ghost use Rattle.campl_names.specs.Judges.{Judges};
-ghost use Rattle.campl_types.specs.Known.{each, outside, in_seq, in_chan, is_own, in_patterns, in_expr, in_decl};
+ghost use Rattle.campl_types.specs.Known.{each, outside, in_seq, in_chan, in_patterns, in_expr, in_decl};
 ghost use Rattle.campl_types.specs.Patterns.{bound_in_all, bound_by_all};
 ghost use Rattle.campl_names.specs.Scope.{heading, with_names};
 ghost use Rattle.campl_types.specs.Substitution.{variables_of, variables_of_all};
@@ -11,13 +11,13 @@ ghost use Rattle.campl_types.specs.World.{names_of, variables_of_list};
 
 use crate::judge_bodies::{bind, judge_body};
 use crate::judge_exprs::{bind_patterns, judge_expr, judge_patterns};
-use crate::judge_types::{judge_chan, judge_each_chan, judge_each_seq, judge_seq};
+use crate::judge_types::{judge_each_chan, judge_each_seq, judge_seq};
+use crate::lines::ChannelLine;
 use crate::name_set::NameSet;
-use crate::refusing::wrong_kind;
 use crate::world::World;
 use campl_tree::{
-    Binder, CoprotocolConstructor, CoprotocolDecl, DataConstructor, DataDecl, Decl, FunctionDecl,
-    FunctionRow, Ident, Name, ProcessDecl, ProtocolConstructor, ProtocolDecl, SeqType,
+    Binder, CoprotocolDecl, DataConstructor, DataDecl, Decl, FunctionDecl, FunctionRow, Ident,
+    Name, ProcessDecl, ProtocolDecl, SeqType,
 };
 use campl_types::NameFault;
 use std::alloc::{AllocError, Global};
@@ -31,8 +31,8 @@ pub(crate) fn judge_decls(
 ) -> Result<(), NameFault>
     ensures { Judges (each (in_decl (map view_decl world.now)) (map view_decl declarations.now)) result }
 {
-    for i in 0..declarations.len() {
-        judge_decl(alloc, world, &declarations[i])?;
+    for declaration in declarations {
+        judge_decl(alloc, world, declaration)?;
     }
     Ok(())
 }
@@ -98,21 +98,10 @@ fn judge_data_lines(
 ) -> Result<(), NameFault>
     ensures { Judges (each (λ (n : plain.DataConstructor). each (in_seq (map view_decl world.now) (heading parameters.now None)) n.parts) (map view_data_constructor lines.now)) result }
 {
-    for i in 0..lines.len() {
-        judge_each_seq(alloc, world, parameters, lines[i].parts.as_slice())?;
+    for line in lines {
+        judge_each_seq(alloc, world, parameters, line.parts.as_slice())?;
     }
     Ok(())
-}
-
-/// Judges that a line's own name is that of its heading.
-#[tactic(auto, using(crate::proofs::Judged::judged))]
-fn judge_own(alloc: Global, own: &Name, ident: &Ident) -> Result<(), NameFault>
-    ensures { Judges (is_own own.now ident.now) result }
-{
-    if *own == ident.name {
-        return Ok(());
-    }
-    wrong_kind(alloc, ident.place, &ident.name)
 }
 
 /// Judges a protocol.
@@ -120,46 +109,8 @@ fn judge_own(alloc: Global, own: &Name, ident: &Ident) -> Result<(), NameFault>
 fn judge_protocol(alloc: Global, world: &World, d: &ProtocolDecl) -> Result<(), NameFault>
     ensures { Judges (in_decl (map view_decl world.now) (plain.Protocol (view_protocol d.now))) result }
 {
-    judge_protocol_parts(
-        alloc,
-        world,
-        d.parameters.as_slice(),
-        &d.local.name,
-        d.constructors.as_slice(),
-    )
-}
-
-/// Judges the lines of a protocol with these parameters.
-#[tactic(auto, using(crate::proofs::Judged::judged))]
-fn judge_protocol_parts(
-    alloc: Global,
-    world: &World,
-    parameters: &[Ident],
-    own: &Name,
-    lines: &[ProtocolConstructor],
-) -> Result<(), NameFault>
-    ensures { Judges (each (λ (n : plain.ProtocolConstructor). in_chan (map view_decl world.now) (heading (names_of parameters.now) (Some own.now)) n.channel_type ++ is_own own.now n.local) (map view_protocol_constructor lines.now)) result }
-{
-    let set = parameter_set(alloc, parameters)?;
-    judge_protocol_lines(alloc, world, &set, own, lines)
-}
-
-/// Judges the lines of a protocol.
-#[tactic(auto, using(crate::proofs::Judged::judged_all))]
-fn judge_protocol_lines(
-    alloc: Global,
-    world: &World,
-    parameters: &NameSet,
-    own: &Name,
-    lines: &[ProtocolConstructor],
-) -> Result<(), NameFault>
-    ensures { Judges (each (λ (n : plain.ProtocolConstructor). in_chan (map view_decl world.now) (heading parameters.now (Some own.now)) n.channel_type ++ is_own own.now n.local) (map view_protocol_constructor lines.now)) result }
-{
-    for i in 0..lines.len() {
-        judge_chan(alloc, world, parameters, Some(own), &lines[i].channel_type)?;
-        judge_own(alloc, own, &lines[i].local)?;
-    }
-    Ok(())
+    let set = parameter_set(alloc, d.parameters.as_slice())?;
+    judge_lines(alloc, world, &set, &d.local.name, d.constructors.as_slice())
 }
 
 /// Judges a coprotocol.
@@ -167,44 +118,23 @@ fn judge_protocol_lines(
 fn judge_coprotocol(alloc: Global, world: &World, d: &CoprotocolDecl) -> Result<(), NameFault>
     ensures { Judges (in_decl (map view_decl world.now) (plain.Coprotocol (view_coprotocol d.now))) result }
 {
-    judge_coprotocol_parts(
-        alloc,
-        world,
-        d.parameters.as_slice(),
-        &d.local.name,
-        d.constructors.as_slice(),
-    )
+    let set = parameter_set(alloc, d.parameters.as_slice())?;
+    judge_lines(alloc, world, &set, &d.local.name, d.constructors.as_slice())
 }
 
-/// Judges the lines of a coprotocol with these parameters.
-#[tactic(auto, using(crate::proofs::Judged::judged))]
-fn judge_coprotocol_parts(
-    alloc: Global,
-    world: &World,
-    parameters: &[Ident],
-    own: &Name,
-    lines: &[CoprotocolConstructor],
-) -> Result<(), NameFault>
-    ensures { Judges (each (λ (n : plain.CoprotocolConstructor). is_own own.now n.local ++ in_chan (map view_decl world.now) (heading (names_of parameters.now) (Some own.now)) n.channel_type) (map view_coprotocol_constructor lines.now)) result }
-{
-    let set = parameter_set(alloc, parameters)?;
-    judge_coprotocol_lines(alloc, world, &set, own, lines)
-}
-
-/// Judges the lines of a coprotocol.
+/// Judges the lines of a protocol or coprotocol.
 #[tactic(auto, using(crate::proofs::Judged::judged_all))]
-fn judge_coprotocol_lines(
+fn judge_lines<L: ChannelLine>(
     alloc: Global,
     world: &World,
     parameters: &NameSet,
     own: &Name,
-    lines: &[CoprotocolConstructor],
+    lines: &[L],
 ) -> Result<(), NameFault>
-    ensures { Judges (each (λ (n : plain.CoprotocolConstructor). is_own own.now n.local ++ in_chan (map view_decl world.now) (heading parameters.now (Some own.now)) n.channel_type) (map view_coprotocol_constructor lines.now)) result }
+    ensures { Judges (each (L.faults (map view_decl world.now) parameters.now own.now) lines.now) result }
 {
-    for i in 0..lines.len() {
-        judge_own(alloc, own, &lines[i].local)?;
-        judge_chan(alloc, world, parameters, Some(own), &lines[i].channel_type)?;
+    for line in lines {
+        line.judge(alloc, world, parameters, own)?;
     }
     Ok(())
 }
@@ -235,8 +165,8 @@ fn add_variables(alloc: Global, set: &mut NameSet, t: &SeqType) -> Result<(), Al
 fn add_all_variables(alloc: Global, set: &mut NameSet, ts: &[SeqType]) -> Result<(), AllocError>
     ensures { OnOk result (set.new ≡ with_names set.old (variables_of_all (seq_types (map view_seq ts.now)))) }
 {
-    for i in 0..ts.len() {
-        add_variables(alloc, set, &ts[i])?;
+    for t in ts {
+        add_variables(alloc, set, t)?;
     }
     Ok(())
 }
@@ -281,8 +211,8 @@ fn judge_function_parts(
 fn judge_function_rows(alloc: Global, world: &World, rows: &[FunctionRow]) -> Result<(), NameFault>
     ensures { Judges (each (λ (r : plain.FunctionRow). in_patterns (map view_decl world.now) r.patterns ++ in_expr (map view_decl world.now) (bound_in_all r.patterns) r.value) (map view_function_row rows.now)) result }
 {
-    for i in 0..rows.len() {
-        judge_function_row(alloc, world, &rows[i])?;
+    for row in rows {
+        judge_function_row(alloc, world, row)?;
     }
     Ok(())
 }
@@ -346,8 +276,8 @@ fn bound_set(alloc: Global, binders: &[Binder]) -> Result<NameSet, AllocError>
 fn bind_all(alloc: Global, scope: &mut NameSet, binders: &[Binder]) -> Result<(), AllocError>
     ensures { OnOk result (scope.new ≡ with_names scope.old (bound_by_all binders.now)) }
 {
-    for i in 0..binders.len() {
-        bind(alloc, scope, &binders[i])?;
+    for binder in binders {
+        bind(alloc, scope, binder)?;
     }
     Ok(())
 }

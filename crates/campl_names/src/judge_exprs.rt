@@ -53,8 +53,8 @@ pub(crate) fn judge_pattern(alloc: Global, world: &World, p: &Pattern) -> Result
 pub(crate) fn judge_patterns(alloc: Global, world: &World, ps: &[Pattern]) -> Result<(), NameFault>
     ensures { Judges (in_patterns (map view_decl world.now) (patterns (map view_pattern ps.now))) result }
 {
-    for i in 0..ps.len() {
-        judge_pattern(alloc, world, &ps[i])?;
+    for p in ps {
+        judge_pattern(alloc, world, p)?;
     }
     Ok(())
 }
@@ -101,8 +101,8 @@ pub(crate) fn bind_patterns(
 ) -> Result<(), AllocError>
     ensures { OnOk result (scope.new ≡ with_names scope.old (bound_in_all (patterns (map view_pattern ps.now)))) }
 {
-    for i in 0..ps.len() {
-        bind_pattern(alloc, scope, &ps[i])?;
+    for p in ps {
+        bind_pattern(alloc, scope, p)?;
     }
     Ok(())
 }
@@ -179,11 +179,7 @@ pub(crate) fn judge_expr(
             judge_expr(alloc, world, scope, a.get())?;
             judge_expr(alloc, world, scope, b.get())
         }
-        Expr::Compare(_, a, _, b) => {
-            judge_expr(alloc, world, scope, a.get())?;
-            judge_expr(alloc, world, scope, b.get())
-        }
-        Expr::Calculate(_, a, _, b) => {
+        Expr::Compare(_, a, _, b) | Expr::Calculate(_, a, _, b) => {
             judge_expr(alloc, world, scope, a.get())?;
             judge_expr(alloc, world, scope, b.get())
         }
@@ -224,8 +220,8 @@ pub(crate) fn judge_exprs(
     ensures judged { Judges (in_exprs (map view_decl world.now) scope.old (exprs (map view_expr all.now))) result }
     ensures kept { OnOk result (scope.new ≡ scope.old) }
 {
-    for i in 0..all.len() {
-        judge_expr(alloc, world, scope, &all[i])?;
+    for e in all {
+        judge_expr(alloc, world, scope, e)?;
     }
     Ok(())
 }
@@ -242,8 +238,8 @@ fn judge_expr_rows(
     ensures judged { Judges (in_expr_rows (map view_decl world.now) scope.old (expr_rows (map view_expr_row rows.now))) result }
     ensures kept { OnOk result (scope.new ≡ scope.old) }
 {
-    for i in 0..rows.len() {
-        judge_expr_row(alloc, world, scope, &rows[i])?;
+    for row in rows {
+        judge_expr_row(alloc, world, scope, row)?;
     }
     Ok(())
 }

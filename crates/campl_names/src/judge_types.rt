@@ -63,8 +63,8 @@ fn judge_seqs(
 ) -> Result<(), NameFault>
     ensures { Judges (in_seqs (map view_decl world.now) (heading parameters.now (option_copied local.entry)) (seq_types (map view_seq ts.now))) result }
 {
-    for i in 0..ts.len() {
-        judge_seq(alloc, world, parameters, local, &ts[i])?;
+    for t in ts {
+        judge_seq(alloc, world, parameters, local, t)?;
     }
     Ok(())
 }
@@ -133,8 +133,8 @@ pub(crate) fn judge_each_seq(
 ) -> Result<(), NameFault>
     ensures { Judges (each (in_seq (map view_decl world.now) (heading parameters.now None)) (map view_seq ts.now)) result }
 {
-    for i in 0..ts.len() {
-        judge_seq(alloc, world, parameters, None, &ts[i])?;
+    for t in ts {
+        judge_seq(alloc, world, parameters, None, t)?;
     }
     Ok(())
 }
@@ -149,8 +149,8 @@ pub(crate) fn judge_each_chan(
 ) -> Result<(), NameFault>
     ensures { Judges (each (in_chan (map view_decl world.now) (heading parameters.now None)) (map view_chan ts.now)) result }
 {
-    for i in 0..ts.len() {
-        judge_chan(alloc, world, parameters, None, &ts[i])?;
+    for t in ts {
+        judge_chan(alloc, world, parameters, None, t)?;
     }
     Ok(())
 }

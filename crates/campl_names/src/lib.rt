@@ -19,6 +19,7 @@ mod judge_bodies;
 mod judge_decls;
 mod judge_exprs;
 mod judge_types;
+mod lines;
 mod name_set;
 mod polarity;
 mod prelude;

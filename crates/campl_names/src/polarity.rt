@@ -1,8 +1,8 @@
 //! The polarity table.
-ghost use Rattle.std.specs.Prelude.{◌≡◌, map};
+ghost use Rattle.std.specs.Prelude.{◌≡◌, [], map};
 ghost use Rattle.campl_tree.specs.View.{view_chan, view_decl};
 ghost use Rattle.campl_tree.specs.declared.service.Side.TheVariants.{Input, Output};
-ghost use Rattle.campl_types.specs.Polarity.{allowed, named_act};
+ghost use Rattle.campl_types.specs.Polarity.{act_of, allowed, of_named};
 ghost use Rattle.campl_types.specs.World.{type_named};
 
 use crate::world::{TypeRef, World};
@@ -37,7 +37,7 @@ impl World {
 
 /// What a channel of a named type allows on the output side.
 fn named_on_output(world: &World, name: &Name) -> Act
-    ensures { result ≡ named_act (type_named (map view_decl world.now) name.now) Output }
+    ensures { result ≡ act_of (of_named (type_named (map view_decl world.now) name.now) Output []) }
 {
     match world.type_named(name) {
         Some(TypeRef::Protocol(_)) => Act::Pick,
@@ -49,7 +49,7 @@ fn named_on_output(world: &World, name: &Name) -> Act
 
 /// What a channel of a named type allows on the input side.
 fn named_on_input(world: &World, name: &Name) -> Act
-    ensures { result ≡ named_act (type_named (map view_decl world.now) name.now) Input }
+    ensures { result ≡ act_of (of_named (type_named (map view_decl world.now) name.now) Input []) }
 {
     match world.type_named(name) {
         Some(TypeRef::Protocol(_)) => Act::Offer,

@@ -3,7 +3,8 @@ ghost use Rattle.std.specs.Prelude.{◌≡◌, ◌+◌, ◌++◌, ◌&&◌, IfOk
 ghost use Rattle.campl_tree.specs.View.{view_seq, seq_types, view_chan, view_process, view_decl};
 ghost use Rattle.campl_tree.specs.Plain.ChanType as plain;
 ghost use Rattle.campl_names.specs.Judges.{Judges};
-ghost use Rattle.campl_types.specs.Run.{most_services, is_type_named, is_empty, all, has_services_alone, heading_faults, run_faults, service, services_of};
+ghost use Rattle.campl_types.specs.Names.{is_empty};
+ghost use Rattle.campl_types.specs.Run.{most_services, is_type_named, all, has_services_alone, heading_faults, run_faults, service, services_of};
 ghost use Rattle.campl_tree.specs.declared.service.Side.TheVariants.{Input, Output};
 
 use crate::world::World;
@@ -83,8 +84,8 @@ fn are_few(inputs: usize, outputs: usize) -> bool
 fn all_named(ts: &[ChanType], name: &Name) -> bool
     ensures { result ≡ all (is_type_named name.now) (map view_chan ts.now) }
 {
-    for i in 0..ts.len() {
-        if !is_named(&ts[i], name) {
+    for t in ts {
+        if !is_named(t, name) {
             return false;
         }
     }

@@ -1,13 +1,14 @@
 //! The tables of declared names, and the judgement that none is declared twice.
 ghost use Rattle.std.specs.Prelude.{◌≡◌, [], ◌++◌, OnOk, map};
-ghost use Rattle.campl_tree.specs.View.{view_decl, view_data_constructor, view_protocol_constructor, view_coprotocol_constructor};
+ghost use Rattle.campl_tree.specs.View.{view_decl};
 ghost use Rattle.campl_names.specs.Judges.{Judges};
-ghost use Rattle.campl_names.specs.Tables.{names_in, data_names, protocol_names, coprotocol_names, lines, heading_spot, type_spots, constructor_spots, lower_spots, spots, again, all_again, decl_again, decls_again};
+ghost use Rattle.campl_names.specs.Tables.{names_in, line_spots, heading_spot, type_spots, constructor_spots, lower_spots, spots, again, all_again, decl_again, decls_again};
 
+use crate::lines::Line;
 use crate::name_set::NameSet;
 use crate::refusing::twice;
 use crate::table::Table;
-use campl_tree::{CoprotocolConstructor, DataConstructor, Decl, Ident, ProtocolConstructor};
+use campl_tree::{Decl, Ident};
 use campl_types::NameFault;
 use std::alloc::Global;
 
@@ -48,7 +49,7 @@ impl Tables {
     }
 
     /// Takes in a declaration's names.
-    #[tactic(auto, using(crate::proofs::Judged::judged))]
+    #[tactic(auto, using(crate::proofs::Declared::declaration))]
     fn add(&mut self, alloc: Global, number: usize, declaration: &Decl) -> Result<(), NameFault>
         ensures judged { Judges (decl_again self.old.types self.old.constructors self.old.lowers (view_decl declaration.now)) result }
         ensures types { OnOk result (self.new.types ≡ self.old.types ++ type_spots number (view_decl declaration.now)) }
@@ -56,39 +57,50 @@ impl Tables {
         ensures lowers { OnOk result (self.new.lowers ≡ self.old.lowers ++ lower_spots number (view_decl declaration.now)) }
     {
         match declaration {
-            Decl::Data(d) => {
-                self.types.add(alloc, &d.name, (number, 0))?;
-                judge_parameters(alloc, d.parameters.as_slice())?;
-                add_data(
-                    &mut self.constructors,
-                    alloc,
-                    number,
-                    d.constructors.as_slice(),
-                )
-            }
-            Decl::Protocol(d) => {
-                self.types.add(alloc, &d.name, (number, 0))?;
-                judge_parameters(alloc, d.parameters.as_slice())?;
-                add_protocol(
-                    &mut self.constructors,
-                    alloc,
-                    number,
-                    d.constructors.as_slice(),
-                )
-            }
-            Decl::Coprotocol(d) => {
-                self.types.add(alloc, &d.name, (number, 0))?;
-                judge_parameters(alloc, d.parameters.as_slice())?;
-                add_coprotocol(
-                    &mut self.constructors,
-                    alloc,
-                    number,
-                    d.constructors.as_slice(),
-                )
-            }
+            Decl::Data(d) => self.add_type(
+                alloc,
+                number,
+                &d.name,
+                d.parameters.as_slice(),
+                d.constructors.as_slice(),
+            ),
+            Decl::Protocol(d) => self.add_type(
+                alloc,
+                number,
+                &d.name,
+                d.parameters.as_slice(),
+                d.constructors.as_slice(),
+            ),
+            Decl::Coprotocol(d) => self.add_type(
+                alloc,
+                number,
+                &d.name,
+                d.parameters.as_slice(),
+                d.constructors.as_slice(),
+            ),
             Decl::Function(d) => self.lowers.add(alloc, &d.name, (number, 0)),
             Decl::Process(d) => self.lowers.add(alloc, &d.name, (number, 0)),
         }
+    }
+
+    /// Takes in the name of a type and those of its lines.
+    #[tactic(auto, using(crate::proofs::Judged::judged))]
+    fn add_type<L: Line>(
+        &mut self,
+        alloc: Global,
+        number: usize,
+        name: &Ident,
+        parameters: &[Ident],
+        lines: &[L],
+    ) -> Result<(), NameFault>
+        ensures judged { Judges (again (names_in self.old.types) name.now ++ all_again [] parameters.now ++ all_again (names_in self.old.constructors) (map L.named lines.now)) result }
+        ensures types { OnOk result (self.new.types ≡ self.old.types ++ heading_spot number name.now) }
+        ensures constructors { OnOk result (self.new.constructors ≡ self.old.constructors ++ line_spots number 0 (map L.named lines.now)) }
+        ensures lowers { self.new.lowers ≡ self.old.lowers }
+    {
+        self.types.add(alloc, name, (number, 0))?;
+        judge_parameters(alloc, parameters)?;
+        add_lines(&mut self.constructors, alloc, number, lines)
     }
 }
 
@@ -107,53 +119,19 @@ fn judge_parameters(alloc: Global, parameters: &[Ident]) -> Result<(), NameFault
     Ok(())
 }
 
-/// Takes in the constructors of a data type.
+/// Takes in the constructors of a type, which its lines declare.
 #[tactic(auto, using(crate::proofs::Declared::entering))]
-fn add_data(
+fn add_lines<L: Line>(
     table: &mut Table,
     alloc: Global,
     number: usize,
-    constructors: &[DataConstructor],
+    lines: &[L],
 ) -> Result<(), NameFault>
-    ensures judged { Judges (all_again (names_in table.old) (data_names (map view_data_constructor constructors.now))) result }
-    ensures added { OnOk result (table.new ≡ table.old ++ lines number 0 (data_names (map view_data_constructor constructors.now))) }
+    ensures judged { Judges (all_again (names_in table.old) (map L.named lines.now)) result }
+    ensures added { OnOk result (table.new ≡ table.old ++ line_spots number 0 (map L.named lines.now)) }
 {
-    for i in 0..constructors.len() {
-        table.add(alloc, &constructors[i].name, (number, i))?;
-    }
-    Ok(())
-}
-
-/// Takes in the constructors of a protocol.
-#[tactic(auto, using(crate::proofs::Declared::entering))]
-fn add_protocol(
-    table: &mut Table,
-    alloc: Global,
-    number: usize,
-    constructors: &[ProtocolConstructor],
-) -> Result<(), NameFault>
-    ensures judged { Judges (all_again (names_in table.old) (protocol_names (map view_protocol_constructor constructors.now))) result }
-    ensures added { OnOk result (table.new ≡ table.old ++ lines number 0 (protocol_names (map view_protocol_constructor constructors.now))) }
-{
-    for i in 0..constructors.len() {
-        table.add(alloc, &constructors[i].name, (number, i))?;
-    }
-    Ok(())
-}
-
-/// Takes in the constructors of a coprotocol.
-#[tactic(auto, using(crate::proofs::Declared::entering))]
-fn add_coprotocol(
-    table: &mut Table,
-    alloc: Global,
-    number: usize,
-    constructors: &[CoprotocolConstructor],
-) -> Result<(), NameFault>
-    ensures judged { Judges (all_again (names_in table.old) (coprotocol_names (map view_coprotocol_constructor constructors.now))) result }
-    ensures added { OnOk result (table.new ≡ table.old ++ lines number 0 (coprotocol_names (map view_coprotocol_constructor constructors.now))) }
-{
-    for i in 0..constructors.len() {
-        table.add(alloc, &constructors[i].name, (number, i))?;
+    for i in 0..lines.len() {
+        table.add(alloc, lines[i].ident(), (number, i))?;
     }
     Ok(())
 }

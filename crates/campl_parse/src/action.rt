@@ -1,10 +1,11 @@
 //! Commands behind which a process goes on.
-ghost use Rattle.std.specs.Prelude.{◌≡◌, ◌≤◌, OnOk};
+ghost use Rattle.std.specs.Prelude.{◌≡◌};
 ghost use Rattle.campl_gram.specs.Reading.{next_in};
 ghost use Rattle.campl_grammar.specs.Word.{terminals};
 ghost use Rattle.campl_grammar.specs.Tables.{starts};
-ghost use Rattle.campl_grammar.specs.Rules.{read};
-ghost use Rattle.campl_grammar.specs.Names.{actions as actions_name, action as action_name, put as put_name, get as get_name, hput as hput_name, split as split_name, close as close_name};
+ghost use Rattle.campl_grammar.specs.Rules.{read, piece};
+ghost use Rattle.campl_parse.specs.Bodies.{on_channel as on_channel_piece};
+ghost use Rattle.campl_grammar.specs.Names as name;
 ghost use Rattle.campl_parse_terms.specs.Reads.{Reads};
 
 use campl_grammar::Kind;
@@ -13,19 +14,16 @@ use campl_parse_terms::error::ParseError;
 use campl_parse_terms::expr::expr;
 use campl_parse_terms::names::var;
 use campl_parse_terms::read;
-use campl_tree::Action;
+use campl_tree::{Action, Ident};
 use sqlite_items::Items;
 use std::alloc::Global;
 
 /// Whether a command that isn't the last may begin with the next word.
 fn starts_action(cursor: &Cursor<'_>) -> bool
-    ensures { result ≡ next_in terminals (starts actions_name) cursor.now }
+    ensures { result ≡ next_in terminals (starts name.actions) cursor.now }
 {
-    cursor.at(Kind::Put)
-        || cursor.at(Kind::Get)
-        || cursor.at(Kind::Hput)
-        || cursor.at(Kind::Split)
-        || cursor.at(Kind::Close)
+    let kinds = [Kind::Put, Kind::Get, Kind::Hput, Kind::Split, Kind::Close];
+    cursor.at_any(&kinds)
 }
 
 /// Commands, each with its semicolon, or none.
@@ -34,7 +32,7 @@ pub fn actions(
     cursor: &mut Cursor<'_>,
     depth: u32,
 ) -> Result<Items<Action>, ParseError>
-    ensures { Reads (read actions_name depth cursor.old) result cursor.new }
+    ensures { Reads (read name.actions depth cursor.old) result cursor.new }
 {
     let mut found = Items::new(alloc);
     'actions: while starts_action(cursor) {
@@ -47,7 +45,7 @@ pub fn actions(
 /// A command that isn't the last.
 #[tactic(auto, using(campl_grammar::proofs::ByRule::reads_action))]
 fn action(alloc: Global, cursor: &mut Cursor<'_>, depth: u32) -> Result<Action, ParseError>
-    ensures { Reads (read action_name depth cursor.old) result cursor.new }
+    ensures { Reads (read name.action depth cursor.old) result cursor.new }
 {
     if cursor.at(Kind::Put) {
         return put(alloc, cursor, depth);
@@ -64,52 +62,55 @@ fn action(alloc: Global, cursor: &mut Cursor<'_>, depth: u32) -> Result<Action, 
     close(alloc, cursor, depth)
 }
 
+/// `on` and a channel.
+fn on_channel(alloc: Global, cursor: &mut Cursor<'_>, depth: u32) -> Result<Ident, ParseError>
+    ensures { Reads (piece on_channel_piece depth cursor.old) result cursor.new }
+{
+    read!(cursor.expect(Kind::On, depth));
+    cursor.lower(alloc, depth)
+}
+
 /// `put e on x`
 #[tactic(auto, using(campl_grammar::proofs::ByRule::reads_put))]
 fn put(alloc: Global, cursor: &mut Cursor<'_>, depth: u32) -> Result<Action, ParseError>
-    ensures { Reads (read put_name depth cursor.old) result cursor.new }
+    ensures { Reads (read name.put depth cursor.old) result cursor.new }
 {
     let place = read!(cursor.expect(Kind::Put, depth)).place();
     let value = read!(expr(alloc, cursor, depth));
-    read!(cursor.expect(Kind::On, depth));
-    let channel = read!(cursor.lower(alloc, depth));
+    let channel = read!(on_channel(alloc, cursor, depth));
     Ok(Action::Put(place, value, channel))
 }
 
 /// `get v on x`
 #[tactic(auto, using(campl_grammar::proofs::ByRule::reads_get))]
 fn get(alloc: Global, cursor: &mut Cursor<'_>, depth: u32) -> Result<Action, ParseError>
-    ensures { Reads (read get_name depth cursor.old) result cursor.new }
+    ensures { Reads (read name.get depth cursor.old) result cursor.new }
 {
     let place = read!(cursor.expect(Kind::Get, depth)).place();
     let binder = read!(var(alloc, cursor, depth));
-    read!(cursor.expect(Kind::On, depth));
-    let channel = read!(cursor.lower(alloc, depth));
+    let channel = read!(on_channel(alloc, cursor, depth));
     Ok(Action::Get(place, binder, channel))
 }
 
 /// `hput C on x`
 #[tactic(auto, using(campl_grammar::proofs::ByRule::reads_hput))]
 fn hput(alloc: Global, cursor: &mut Cursor<'_>, depth: u32) -> Result<Action, ParseError>
-    ensures { Reads (read hput_name depth cursor.old) result cursor.new }
+    ensures { Reads (read name.hput depth cursor.old) result cursor.new }
 {
     let place = read!(cursor.expect(Kind::Hput, depth)).place();
     let constructor = read!(cursor.upper(alloc, depth));
-    read!(cursor.expect(Kind::On, depth));
-    let channel = read!(cursor.lower(alloc, depth));
+    let channel = read!(on_channel(alloc, cursor, depth));
     Ok(Action::Hput(place, constructor, channel))
 }
 
 /// `split x into a, b`
 #[tactic(auto, using(campl_grammar::proofs::ByRule::reads_split))]
 fn split(alloc: Global, cursor: &mut Cursor<'_>, depth: u32) -> Result<Action, ParseError>
-    ensures { Reads (read split_name depth cursor.old) result cursor.new }
+    ensures { Reads (read name.split depth cursor.old) result cursor.new }
 {
     let place = read!(cursor.expect(Kind::Split, depth)).place();
-    let channel = read!(cursor.lower(alloc, depth));
-    read!(cursor.expect(Kind::Into, depth));
-    let first = read!(cursor.lower(alloc, depth));
-    read!(cursor.expect(Kind::Comma, depth));
+    let channel = read!(cursor.lower_before(alloc, Kind::Into, depth));
+    let first = read!(cursor.lower_before(alloc, Kind::Comma, depth));
     let second = read!(cursor.lower(alloc, depth));
     Ok(Action::Split(place, channel, first, second))
 }
@@ -117,7 +118,7 @@ fn split(alloc: Global, cursor: &mut Cursor<'_>, depth: u32) -> Result<Action, P
 /// `close x`
 #[tactic(auto, using(campl_grammar::proofs::ByRule::reads_close))]
 fn close(alloc: Global, cursor: &mut Cursor<'_>, depth: u32) -> Result<Action, ParseError>
-    ensures { Reads (read close_name depth cursor.old) result cursor.new }
+    ensures { Reads (read name.close depth cursor.old) result cursor.new }
 {
     let place = read!(cursor.expect(Kind::Close, depth)).place();
     let channel = read!(cursor.lower(alloc, depth));

@@ -1,10 +1,10 @@
 //! What a process does.
-ghost use Rattle.std.specs.Prelude.{◌≡◌, ◌≤◌, OnOk, MatchResult};
-ghost use Rattle.campl_gram.specs.Reading.{next_in, adds};
-ghost use Rattle.campl_grammar.specs.Rules.{read, piece};
-ghost use Rattle.campl_grammar.specs.Names.{body as body_name, last as last_name, halt as halt_name, hcase as hcase_name, fork as fork_name, plug as plug_name, race as race_name, choice as choice_name, hrows as hrows_name, hrow as hrow_name, branches as branches_name, branch as branch_name, parts as parts_name, part as part_name, crows as crows_name, crow as crow_name};
+ghost use Rattle.std.specs.Prelude.{◌≡◌, ◌≤◌, MatchResult, suc};
+ghost use Rattle.campl_gram.specs.Grammar.{nt};
+ghost use Rattle.campl_grammar.specs.Rules.{read, piece, in_braces};
+ghost use Rattle.campl_grammar.specs.Names as name;
 ghost use Rattle.campl_tree.specs.declared.process.Last.TheVariants.{Fork};
-ghost use Rattle.campl_parse.specs.Bodies.{fork_rows as fork_rows_piece};
+ghost use Rattle.campl_parse.specs.Bodies.{arrow_body as arrow_body_piece, fork_rows as fork_rows_piece};
 ghost use Rattle.campl_parse_terms.specs.Reads.{Reads};
 ghost use Rattle.campl_parse_terms.specs.declared.error.ParseError.TheVariants.{OutOfMemory};
 
@@ -15,7 +15,8 @@ use campl_grammar::Kind;
 use campl_parse_terms::cursor::Cursor;
 use campl_parse_terms::error::ParseError;
 use campl_parse_terms::expr::expr;
-use campl_parse_terms::names::names;
+use campl_parse_terms::lines::block;
+use campl_parse_terms::names::{names, names_behind};
 use campl_parse_terms::pattern::pattern;
 use campl_parse_terms::{made, read};
 use campl_tree::{Body, Branch, CaseRow, HcaseRow, Ident, Last, Part, Place};
@@ -26,7 +27,7 @@ use std::alloc::Global;
 #[cycle(body)]
 #[tactic(auto, using(campl_grammar::proofs::ByRule::reads_body))]
 pub fn body(alloc: Global, cursor: &mut Cursor<'_>, depth: u32) -> Result<Body, ParseError>
-    ensures { Reads (read body_name depth cursor.old) result cursor.new }
+    ensures { Reads (read name.body depth cursor.old) result cursor.new }
 {
     if !cursor.at(Kind::Do) {
         let last = read!(last(alloc, cursor, depth));
@@ -41,11 +42,20 @@ pub fn body(alloc: Global, cursor: &mut Cursor<'_>, depth: u32) -> Result<Body, 
     Ok(Body { actions, last })
 }
 
+/// `->` and a body.
+#[cycle(body)]
+pub fn arrow_body(alloc: Global, cursor: &mut Cursor<'_>, depth: u32) -> Result<Body, ParseError>
+    ensures { Reads (piece arrow_body_piece depth cursor.old) result cursor.new }
+{
+    read!(cursor.expect(Kind::Arrow, depth));
+    body(alloc, cursor, depth)
+}
+
 /// The last command of a body.
 #[cycle(body)]
 #[tactic(auto, using(campl_grammar::proofs::ByRule::reads_last))]
 fn last(alloc: Global, cursor: &mut Cursor<'_>, depth: u32) -> Result<Last, ParseError>
-    ensures { Reads (read last_name depth cursor.old) result cursor.new }
+    ensures { Reads (read name.last depth cursor.old) result cursor.new }
 {
     if cursor.at(Kind::Halt) {
         return halt(alloc, cursor, depth);
@@ -71,7 +81,7 @@ fn last(alloc: Global, cursor: &mut Cursor<'_>, depth: u32) -> Result<Last, Pars
 /// `halt`, and a channel where one is named.
 #[tactic(auto, using(campl_grammar::proofs::ByRule::reads_halt))]
 fn halt(alloc: Global, cursor: &mut Cursor<'_>, depth: u32) -> Result<Last, ParseError>
-    ensures { Reads (read halt_name depth cursor.old) result cursor.new }
+    ensures { Reads (read name.halt depth cursor.old) result cursor.new }
 {
     let place = read!(cursor.expect(Kind::Halt, depth)).place();
     if !cursor.at(Kind::Lower) {
@@ -85,14 +95,11 @@ fn halt(alloc: Global, cursor: &mut Cursor<'_>, depth: u32) -> Result<Last, Pars
 #[cycle(body)]
 #[tactic(auto, using(campl_grammar::proofs::ByRule::reads_hcase))]
 fn hcase(alloc: Global, cursor: &mut Cursor<'_>, depth: u32) -> Result<Last, ParseError>
-    ensures { Reads (read hcase_name depth cursor.old) result cursor.new }
+    ensures { Reads (read name.hcase depth cursor.old) result cursor.new }
 {
     let place = read!(cursor.expect(Kind::Hcase, depth)).place();
-    let channel = read!(cursor.lower(alloc, depth));
-    read!(cursor.expect(Kind::Of, depth));
-    read!(cursor.expect(Kind::LeftBrace, depth));
-    let rows = read!(hrows(alloc, cursor, depth + 1));
-    read!(cursor.expect(Kind::RightBrace, depth + 1));
+    let channel = read!(cursor.lower_before(alloc, Kind::Of, depth));
+    let rows = read!(hrows(alloc, cursor, depth));
     Ok(Last::Hcase(place, channel, rows))
 }
 
@@ -100,18 +107,15 @@ fn hcase(alloc: Global, cursor: &mut Cursor<'_>, depth: u32) -> Result<Last, Par
 #[cycle(body)]
 #[tactic(auto, using(campl_grammar::proofs::ByRule::reads_fork))]
 fn fork(alloc: Global, cursor: &mut Cursor<'_>, depth: u32) -> Result<Last, ParseError>
-    ensures { Reads (read fork_name depth cursor.old) result cursor.new }
+    ensures { Reads (read name.fork depth cursor.old) result cursor.new }
 {
     let place = read!(cursor.expect(Kind::Fork, depth)).place();
-    let channel = read!(cursor.lower(alloc, depth));
-    read!(cursor.expect(Kind::As, depth));
-    read!(cursor.expect(Kind::LeftBrace, depth));
-    let (first, second) = read!(fork_rows(alloc, cursor, depth + 1));
-    read!(cursor.expect(Kind::RightBrace, depth + 1));
+    let channel = read!(cursor.lower_before(alloc, Kind::As, depth));
+    let (first, second) = read!(fork_rows(alloc, cursor, depth));
     forked(alloc, place, channel, first, second)
 }
 
-/// The two rows of a `fork`.
+/// The two rows of a `fork` in braces.
 #[cycle(body)]
 fn fork_rows(
     alloc: Global,
@@ -120,9 +124,11 @@ fn fork_rows(
 ) -> Result<(Branch, Branch), ParseError>
     ensures { Reads (piece fork_rows_piece depth cursor.old) result cursor.new }
 {
-    let first = read!(branch(alloc, cursor, depth));
-    read!(cursor.expect(Kind::Semicolon, depth));
-    let second = read!(branch(alloc, cursor, depth));
+    read!(cursor.expect(Kind::LeftBrace, depth));
+    let first = read!(branch(alloc, cursor, depth + 1));
+    read!(cursor.expect(Kind::Semicolon, depth + 1));
+    let second = read!(branch(alloc, cursor, depth + 1));
+    read!(cursor.expect(Kind::RightBrace, depth + 1));
     Ok((first, second))
 }
 
@@ -145,14 +151,12 @@ fn forked(
 #[cycle(body)]
 #[tactic(auto, using(campl_grammar::proofs::ByRule::reads_plug, campl_gram::proofs::Lists::adds_none))]
 fn plug(alloc: Global, cursor: &mut Cursor<'_>, depth: u32) -> Result<Last, ParseError>
-    ensures { Reads (read plug_name depth cursor.old) result cursor.new }
+    ensures { Reads (read name.plug depth cursor.old) result cursor.new }
 {
     let place = read!(cursor.expect(Kind::Plug, depth)).place();
     let channels = read!(links(alloc, cursor, depth, Items::new(alloc)));
     read!(cursor.expect(Kind::Of, depth));
-    read!(cursor.expect(Kind::LeftBrace, depth));
-    let parts = read!(parts(alloc, cursor, depth + 1));
-    read!(cursor.expect(Kind::RightBrace, depth + 1));
+    let parts = read!(parts(alloc, cursor, depth));
     Ok(Last::Plug(place, channels, parts))
 }
 
@@ -160,12 +164,10 @@ fn plug(alloc: Global, cursor: &mut Cursor<'_>, depth: u32) -> Result<Last, Pars
 #[cycle(body)]
 #[tactic(auto, using(campl_grammar::proofs::ByRule::reads_race))]
 fn race(alloc: Global, cursor: &mut Cursor<'_>, depth: u32) -> Result<Last, ParseError>
-    ensures { Reads (read race_name depth cursor.old) result cursor.new }
+    ensures { Reads (read name.race depth cursor.old) result cursor.new }
 {
     let place = read!(cursor.expect(Kind::Race, depth)).place();
-    read!(cursor.expect(Kind::LeftBrace, depth));
-    let rows = read!(branches(alloc, cursor, depth + 1));
-    read!(cursor.expect(Kind::RightBrace, depth + 1));
+    let rows = read!(branches(alloc, cursor, depth));
     Ok(Last::Race(place, rows))
 }
 
@@ -173,37 +175,36 @@ fn race(alloc: Global, cursor: &mut Cursor<'_>, depth: u32) -> Result<Last, Pars
 #[cycle(body)]
 #[tactic(auto, using(campl_grammar::proofs::ByRule::reads_choice))]
 fn choice(alloc: Global, cursor: &mut Cursor<'_>, depth: u32) -> Result<Last, ParseError>
-    ensures { Reads (read choice_name depth cursor.old) result cursor.new }
+    ensures { Reads (read name.choice depth cursor.old) result cursor.new }
 {
     let place = read!(cursor.expect(Kind::Case, depth)).place();
     let value = read!(expr(alloc, cursor, depth));
     read!(cursor.expect(Kind::Of, depth));
-    read!(cursor.expect(Kind::LeftBrace, depth));
-    let rows = read!(crows(alloc, cursor, depth + 1));
-    read!(cursor.expect(Kind::RightBrace, depth + 1));
+    let rows = read!(crows(alloc, cursor, depth));
     Ok(Last::Case(place, value, rows))
 }
 
-/// The rows of an `hcase`.
+/// The rows of an `hcase` in braces.
 #[cycle(body)]
 fn hrows(alloc: Global, cursor: &mut Cursor<'_>, depth: u32) -> Result<Items<HcaseRow>, ParseError>
-    ensures { Reads (read hrows_name depth cursor.old) result cursor.new }
+    ensures { Reads (piece (in_braces (nt name.hrows)) depth cursor.old) result cursor.new }
 {
-    let mut found = Items::new(alloc);
-    'lines: loop {
-        found.push(hrow(alloc, cursor, depth)?)?;
-        if !cursor.at(Kind::Semicolon) {
-            return Ok(found);
-        }
-        cursor.expect(Kind::Semicolon, depth)?;
-    }
+    block(
+        alloc,
+        cursor,
+        depth,
+        |cursor: &mut Cursor<'_>| -> Result<HcaseRow, ParseError>
+            requires { depth ≤ 200 }
+            ensures { Reads (read name.hrow (suc depth) cursor.old) result cursor.new }
+        { hrow(alloc, cursor, depth + 1) },
+    )
 }
 
 /// A row of an `hcase`.
 #[cycle(body)]
 #[tactic(auto, using(campl_grammar::proofs::ByRule::reads_hrow))]
 fn hrow(alloc: Global, cursor: &mut Cursor<'_>, depth: u32) -> Result<HcaseRow, ParseError>
-    ensures { Reads (read hrow_name depth cursor.old) result cursor.new }
+    ensures { Reads (read name.hrow depth cursor.old) result cursor.new }
 {
     let constructor = read!(cursor.upper(alloc, depth));
     read!(cursor.expect(Kind::Arrow, depth));
@@ -211,26 +212,27 @@ fn hrow(alloc: Global, cursor: &mut Cursor<'_>, depth: u32) -> Result<HcaseRow, 
     Ok(HcaseRow { constructor, body })
 }
 
-/// The rows of a `race`.
+/// The rows of a `race` in braces.
 #[cycle(body)]
 fn branches(alloc: Global, cursor: &mut Cursor<'_>, depth: u32) -> Result<Items<Branch>, ParseError>
-    ensures { Reads (read branches_name depth cursor.old) result cursor.new }
+    ensures { Reads (piece (in_braces (nt name.branches)) depth cursor.old) result cursor.new }
 {
-    let mut found = Items::new(alloc);
-    'lines: loop {
-        found.push(branch(alloc, cursor, depth)?)?;
-        if !cursor.at(Kind::Semicolon) {
-            return Ok(found);
-        }
-        cursor.expect(Kind::Semicolon, depth)?;
-    }
+    block(
+        alloc,
+        cursor,
+        depth,
+        |cursor: &mut Cursor<'_>| -> Result<Branch, ParseError>
+            requires { depth ≤ 200 }
+            ensures { Reads (read name.branch (suc depth) cursor.old) result cursor.new }
+        { branch(alloc, cursor, depth + 1) },
+    )
 }
 
 /// A row of a `race` or of a `fork`.
 #[cycle(body)]
 #[tactic(auto, using(campl_grammar::proofs::ByRule::reads_branch))]
 fn branch(alloc: Global, cursor: &mut Cursor<'_>, depth: u32) -> Result<Branch, ParseError>
-    ensures { Reads (read branch_name depth cursor.old) result cursor.new }
+    ensures { Reads (read name.branch depth cursor.old) result cursor.new }
 {
     let channel = read!(cursor.lower(alloc, depth));
     read!(cursor.expect(Kind::Arrow, depth));
@@ -238,33 +240,32 @@ fn branch(alloc: Global, cursor: &mut Cursor<'_>, depth: u32) -> Result<Branch, 
     Ok(Branch { channel, body })
 }
 
-/// The parts of a `plug`.
+/// The parts of a `plug` in braces.
 #[cycle(body)]
 fn parts(alloc: Global, cursor: &mut Cursor<'_>, depth: u32) -> Result<Items<Part>, ParseError>
-    ensures { Reads (read parts_name depth cursor.old) result cursor.new }
+    ensures { Reads (piece (in_braces (nt name.parts)) depth cursor.old) result cursor.new }
 {
-    let mut found = Items::new(alloc);
-    'lines: loop {
-        found.push(part(alloc, cursor, depth)?)?;
-        if !cursor.at(Kind::Semicolon) {
-            return Ok(found);
-        }
-        cursor.expect(Kind::Semicolon, depth)?;
-    }
+    block(
+        alloc,
+        cursor,
+        depth,
+        |cursor: &mut Cursor<'_>| -> Result<Part, ParseError>
+            requires { depth ≤ 200 }
+            ensures { Reads (read name.part (suc depth) cursor.old) result cursor.new }
+        { part(alloc, cursor, depth + 1) },
+    )
 }
 
 /// A part of a `plug`.
 #[cycle(body)]
 #[tactic(auto, using(campl_grammar::proofs::ByRule::reads_part))]
 fn part(alloc: Global, cursor: &mut Cursor<'_>, depth: u32) -> Result<Part, ParseError>
-    ensures { Reads (read part_name depth cursor.old) result cursor.new }
+    ensures { Reads (read name.part depth cursor.old) result cursor.new }
 {
     let place = cursor.place();
     let inputs = read!(names(alloc, cursor, depth));
-    read!(cursor.expect(Kind::FatArrow, depth));
-    let outputs = read!(names(alloc, cursor, depth));
-    read!(cursor.expect(Kind::Arrow, depth));
-    let body = read!(body(alloc, cursor, depth));
+    let outputs = read!(names_behind(alloc, cursor, Kind::FatArrow, depth));
+    let body = read!(arrow_body(alloc, cursor, depth));
     Ok(Part {
         place,
         inputs,
@@ -273,26 +274,27 @@ fn part(alloc: Global, cursor: &mut Cursor<'_>, depth: u32) -> Result<Part, Pars
     })
 }
 
-/// The rows of a `case`.
+/// The rows of a `case` in braces.
 #[cycle(body)]
 fn crows(alloc: Global, cursor: &mut Cursor<'_>, depth: u32) -> Result<Items<CaseRow>, ParseError>
-    ensures { Reads (read crows_name depth cursor.old) result cursor.new }
+    ensures { Reads (piece (in_braces (nt name.crows)) depth cursor.old) result cursor.new }
 {
-    let mut found = Items::new(alloc);
-    'lines: loop {
-        found.push(crow(alloc, cursor, depth)?)?;
-        if !cursor.at(Kind::Semicolon) {
-            return Ok(found);
-        }
-        cursor.expect(Kind::Semicolon, depth)?;
-    }
+    block(
+        alloc,
+        cursor,
+        depth,
+        |cursor: &mut Cursor<'_>| -> Result<CaseRow, ParseError>
+            requires { depth ≤ 200 }
+            ensures { Reads (read name.crow (suc depth) cursor.old) result cursor.new }
+        { crow(alloc, cursor, depth + 1) },
+    )
 }
 
 /// A row of a `case`.
 #[cycle(body)]
 #[tactic(auto, using(campl_grammar::proofs::ByRule::reads_crow))]
 fn crow(alloc: Global, cursor: &mut Cursor<'_>, depth: u32) -> Result<CaseRow, ParseError>
-    ensures { Reads (read crow_name depth cursor.old) result cursor.new }
+    ensures { Reads (read name.crow depth cursor.old) result cursor.new }
 {
     let pattern = read!(pattern(alloc, cursor, depth));
     read!(cursor.expect(Kind::Arrow, depth));

@@ -2,14 +2,14 @@
 ghost use Rattle.std.specs.Prelude.{◌≡◌, Ok};
 ghost use Rattle.campl_gram.specs.Reading.{and_then};
 ghost use Rattle.campl_grammar.specs.Rules.{read};
-ghost use Rattle.campl_grammar.specs.Names.{named as named_name, identity as identity_name, process_call as process_call_name};
+ghost use Rattle.campl_grammar.specs.Names as name;
 ghost use Rattle.campl_parse_terms.specs.Reads.{Reads};
 
 use campl_grammar::Kind;
 use campl_parse_terms::cursor::Cursor;
 use campl_parse_terms::error::ParseError;
 use campl_parse_terms::expr::some_exprs;
-use campl_parse_terms::names::names;
+use campl_parse_terms::names::names_behind;
 use campl_parse_terms::{made, read};
 use campl_tree::Last;
 use campl_words::Word;
@@ -18,7 +18,7 @@ use std::alloc::Global;
 /// `x |=| y`, `x |=| neg y`, or a process's call.
 #[tactic(auto, using(campl_grammar::proofs::ByRule::reads_named))]
 pub fn named(alloc: Global, cursor: &mut Cursor<'_>, depth: u32) -> Result<Last, ParseError>
-    ensures { Reads (read named_name depth cursor.old) result cursor.new }
+    ensures { Reads (read name.named depth cursor.old) result cursor.new }
 {
     let word = read!(cursor.expect(Kind::Lower, depth));
     if cursor.at(Kind::Identity) {
@@ -35,7 +35,7 @@ fn identity(
     depth: u32,
     word: &Word<'_>,
 ) -> Result<Last, ParseError>
-    ensures { Reads (and_then (read identity_name depth cursor.old) (λ make r. (Ok (make word.now), r))) result cursor.new }
+    ensures { Reads (and_then (read name.identity depth cursor.old) (λ make r. (Ok (make word.now), r))) result cursor.new }
 {
     let name = made!(word.name(alloc));
     read!(cursor.expect(Kind::Identity, depth));
@@ -55,15 +55,13 @@ fn process_call(
     depth: u32,
     word: &Word<'_>,
 ) -> Result<Last, ParseError>
-    ensures { Reads (and_then (read process_call_name depth cursor.old) (λ make r. (Ok (make word.now), r))) result cursor.new }
+    ensures { Reads (and_then (read name.process_call depth cursor.old) (λ make r. (Ok (make word.now), r))) result cursor.new }
 {
     let name = made!(word.name(alloc));
     read!(cursor.expect(Kind::LeftParen, depth));
     let values = read!(some_exprs(alloc, cursor, depth + 1));
-    read!(cursor.expect(Kind::Bar, depth + 1));
-    let inputs = read!(names(alloc, cursor, depth + 1));
-    read!(cursor.expect(Kind::FatArrow, depth + 1));
-    let outputs = read!(names(alloc, cursor, depth + 1));
+    let inputs = read!(names_behind(alloc, cursor, Kind::Bar, depth + 1));
+    let outputs = read!(names_behind(alloc, cursor, Kind::FatArrow, depth + 1));
     read!(cursor.expect(Kind::RightParen, depth + 1));
     Ok(Last::Call(word.place(), name, values, inputs, outputs))
 }

@@ -1,8 +1,8 @@
 //! The channels of a `plug`.
-ghost use Rattle.std.specs.Prelude.{◌≡◌, ◌≤◌, OnOk};
+ghost use Rattle.std.specs.Prelude.{◌≡◌};
 ghost use Rattle.campl_gram.specs.Reading.{adds};
 ghost use Rattle.campl_grammar.specs.Rules.{read};
-ghost use Rattle.campl_grammar.specs.Names.{links as links_name, link as link_name};
+ghost use Rattle.campl_grammar.specs.Names as name;
 ghost use Rattle.campl_parse_terms.specs.Reads.{Reads};
 
 use campl_grammar::Kind;
@@ -22,7 +22,7 @@ pub fn links(
     depth: u32,
     mut found: Items<Link>,
 ) -> Result<Items<Link>, ParseError>
-    ensures { Reads (adds found (read links_name depth cursor.old)) result cursor.new }
+    ensures { Reads (adds found (read name.links depth cursor.old)) result cursor.new }
 {
     made!(found.push(read!(link(alloc, cursor, depth))));
     if !cursor.at(Kind::Comma) {
@@ -35,10 +35,9 @@ pub fn links(
 /// A channel's name and its type.
 #[tactic(auto, using(campl_grammar::proofs::ByRule::reads_link))]
 fn link(alloc: Global, cursor: &mut Cursor<'_>, depth: u32) -> Result<Link, ParseError>
-    ensures { Reads (read link_name depth cursor.old) result cursor.new }
+    ensures { Reads (read name.link depth cursor.old) result cursor.new }
 {
-    let name = read!(cursor.lower(alloc, depth));
-    read!(cursor.expect(Kind::DoubleColon, depth));
+    let name = read!(cursor.lower_before(alloc, Kind::DoubleColon, depth));
     let channel_type = read!(ctype(alloc, cursor, depth));
     Ok(Link { name, channel_type })
 }

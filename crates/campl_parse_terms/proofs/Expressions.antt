@@ -1,23 +1,16 @@
 -- What is read after a left operand, one term more.
-use Rattle.std.proofs.Common.{◌≡◌, ◌||◌, List, ◌++◌, Ok, Err, refl, ap, ◌∙◌}
+use Rattle.std.proofs.Common.{◌≡◌, List, Ok, Err, refl}
 use Rattle.campl_tree.specs.declared.place.Place.{Place}
 use Rattle.campl_tree.specs.declared.expr.Expr.{Expr}
 use Rattle.campl_tree.specs.declared.expr.Expr.TheVariants as e
 use Rattle.campl_tree.specs.declared.expr.Arithmetic.{Arithmetic}
-use Rattle.campl_gram.specs.Reading.{Outcome, and_then, next_in}
-use Rattle.campl_grammar.specs.Word.{Word, terminals}
+use Rattle.campl_gram.specs.Reading.{Outcome, and_then}
+use Rattle.campl_grammar.specs.Word.{Word}
 use Rattle.campl_grammar.specs.Trees as t
-use Rattle.campl_grammar.specs.Names.{expr, simple}
-use Rattle.campl_grammar.specs.Tables.{starts}
-use Rattle.campl_parse_terms.specs.Expressions.{calculates, before_atoms, named_atoms}
-use Rattle.campl_parse_terms.proofs.Starts.{next_joined}
+use Rattle.campl_parse_terms.specs.Expressions.{calculates}
 
 -- the first term belongs to the left operand of the others
 pub calculates_one : (at : Place) (left y : Expr) (op : Arithmetic) (o : Outcome Word (List t.Term))
     → calculates at (e.Calculate at left op y) o ≡ calculates at left (and_then (and_then o (λ ts r. (Ok (t.terms_of y ts), r))) (λ f r. (Ok (f op), r)))
 calculates_one at left y op (Ok ts, r) = refl
 calculates_one at left y op (Err f, r) = refl
-
--- with what an expression begins, in three parts
-pub starts_three : (ws : List Word) → next_in terminals (starts expr) ws ≡ (next_in terminals before_atoms ws || (next_in terminals (starts simple) ws || next_in terminals named_atoms ws))
-starts_three ws = next_joined terminals before_atoms (starts simple ++ named_atoms) ws ∙ ap (λ b. next_in terminals before_atoms ws || b) (next_joined terminals (starts simple) named_atoms ws)

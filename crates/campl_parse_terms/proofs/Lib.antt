@@ -1,3 +1,4 @@
+pub mod LineSteps
 pub mod Starts
 pub mod Expressions
 pub mod Cases

@@ -4,6 +4,7 @@ ghost use Rattle.campl_gram.specs.Reading.{next_in, expect};
 ghost use Rattle.campl_gram.specs.Grammar.{place_at};
 ghost use Rattle.campl_grammar.specs.Word.{same, terminals};
 ghost use Rattle.campl_grammar.specs.Rules.{piece, lower, upper, limit};
+ghost use Rattle.campl_parse_terms.specs.Pieces.{choice, lower_before, upper_before};
 ghost use Rattle.campl_parse_terms.specs.Reads.{Reads, Fails};
 
 use crate::error::ParseError;
@@ -60,6 +61,17 @@ impl<'a> Cursor<'a> {
         }
     }
 
+    /// Whether the next word is of one of these kinds.
+    #[tactic(auto, using(crate::proofs::Starts::next_more))]
+    pub fn at_any(&self, kinds: &[Kind]) -> bool
+        ensures { result ≡ next_in terminals kinds.now self.now }
+    {
+        match kinds.split_first() {
+            None => false,
+            Some((kind, others)) => self.at(*kind) || self.at_any(others),
+        }
+    }
+
     /// The place of the next word, or no place where there is none.
     #[tactic(auto, unfolding(campl_grammar::specs::Word::terminals))]
     pub fn place(&self) -> Place
@@ -99,6 +111,25 @@ impl<'a> Cursor<'a> {
         }
     }
 
+    /// Takes a word of one of these kinds, and answers the value beside its kind.
+    pub fn one_of<T: Copy>(
+        &mut self,
+        first: (Kind, T),
+        others: &[(Kind, T)],
+        depth: u32,
+    ) -> Result<T, ParseError>
+        ensures reads { Reads (piece (choice first others.now) depth self.old) result self.new }
+        ensures shallow { OnOk result (depth ≤ 200) }
+    {
+        match others {
+            [next, more @ ..] if !self.at(first.0) => self.one_of(*next, more, depth),
+            _ => {
+                read!(self.expect(first.0, depth));
+                Ok(first.1)
+            }
+        }
+    }
+
     /// Takes a name that begins with a small letter.
     pub fn lower(&mut self, alloc: Global, depth: u32) -> Result<Ident, ParseError>
         ensures reads { Reads (piece lower depth self.old) result self.new }
@@ -114,6 +145,34 @@ impl<'a> Cursor<'a> {
         ensures shallow { OnOk result (depth ≤ 200) }
     {
         let word = read!(self.expect(Kind::Upper, depth));
+        Ok(made!(word.ident(alloc)))
+    }
+
+    /// Takes a name that begins with a small letter, and a word of this kind behind it.
+    pub fn lower_before(
+        &mut self,
+        alloc: Global,
+        kind: Kind,
+        depth: u32,
+    ) -> Result<Ident, ParseError>
+        ensures { Reads (piece (lower_before kind) depth self.old) result self.new }
+    {
+        let word = read!(self.expect(Kind::Lower, depth));
+        read!(self.expect(kind, depth));
+        Ok(made!(word.ident(alloc)))
+    }
+
+    /// Takes a name that begins with `A` to `Z`, and a word of this kind behind it.
+    pub fn upper_before(
+        &mut self,
+        alloc: Global,
+        kind: Kind,
+        depth: u32,
+    ) -> Result<Ident, ParseError>
+        ensures { Reads (piece (upper_before kind) depth self.old) result self.new }
+    {
+        let word = read!(self.expect(Kind::Upper, depth));
+        read!(self.expect(kind, depth));
         Ok(made!(word.ident(alloc)))
     }
 }

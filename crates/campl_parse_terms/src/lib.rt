@@ -6,6 +6,7 @@
 //! - [`cursor`]: the words that are left
 //! - [`error`]: why reading stopped
 //! - `step`: the macros [`read!`] and [`made!`], for steps that may fail
+//! - [`lines`]: lines with `;` between them
 //! - [`names`]: lists of names, and what a process names for a value
 //! - [`types`]: types of values and of channels
 //! - [`pattern`]: patterns
@@ -16,8 +17,9 @@
 
 pub mod cursor;
 pub mod error;
-mod step;
-pub mod names;
-pub mod types;
-pub mod pattern;
 pub mod expr;
+pub mod lines;
+pub mod names;
+pub mod pattern;
+mod step;
+pub mod types;

@@ -5,6 +5,7 @@ ghost use Rattle.campl_grammar.specs.Word.{terminals};
 ghost use Rattle.campl_grammar.specs.Tables.{starts};
 ghost use Rattle.campl_grammar.specs.Rules.{read, piece, some_vars as some_vars_piece};
 ghost use Rattle.campl_grammar.specs.Names.{parameters as parameters_name, names as names_name, idents as idents_name, vars as vars_name, var as var_name};
+ghost use Rattle.campl_parse_terms.specs.Pieces.{names_behind as names_behind_piece};
 ghost use Rattle.campl_parse_terms.specs.Reads.{Reads};
 
 use crate::cursor::Cursor;
@@ -46,6 +47,19 @@ pub fn names(alloc: Global, cursor: &mut Cursor<'_>, depth: u32) -> Result<Items
     idents(alloc, cursor, depth, found)
 }
 
+/// A word of this kind, and names with commas between them, or none.
+pub fn names_behind(
+    alloc: Global,
+    cursor: &mut Cursor<'_>,
+    kind: Kind,
+    depth: u32,
+) -> Result<Items<Ident>, ParseError>
+    ensures { Reads (piece (names_behind_piece kind) depth cursor.old) result cursor.new }
+{
+    read!(cursor.expect(kind, depth));
+    names(alloc, cursor, depth)
+}
+
 /// Adds names with commas between them.
 #[tactic(auto, using(campl_grammar::proofs::ByRule::reads_idents, campl_gram::proofs::Lists::adds_one))]
 pub fn idents(
@@ -68,7 +82,7 @@ pub fn idents(
 fn starts_var(cursor: &Cursor<'_>) -> bool
     ensures { result ≡ next_in terminals (starts var_name) cursor.now }
 {
-    cursor.at(Kind::Lower) || cursor.at(Kind::Wildcard)
+    cursor.at_any(&[Kind::Lower, Kind::Wildcard])
 }
 
 /// Names or `_` with commas between them, or none.

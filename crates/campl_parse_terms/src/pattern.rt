@@ -1,10 +1,10 @@
 //! Patterns.
-ghost use Rattle.std.specs.Prelude.{◌≡◌, ◌≤◌, OnOk};
+ghost use Rattle.std.specs.Prelude.{◌≡◌};
 ghost use Rattle.campl_gram.specs.Reading.{next_in, adds};
 ghost use Rattle.campl_grammar.specs.Word.{terminals};
 ghost use Rattle.campl_grammar.specs.Tables.{starts};
 ghost use Rattle.campl_grammar.specs.Rules.{read, piece, some_patterns as some_patterns_piece};
-ghost use Rattle.campl_grammar.specs.Names.{patterns as patterns_name, pattern as pattern_name, patom as patom_name, constructor_pattern as constructor_pattern_name, list_pattern as list_pattern_name, simple_pattern as simple_pattern_name, grouped_pattern as grouped_pattern_name};
+ghost use Rattle.campl_grammar.specs.Names as name;
 ghost use Rattle.campl_parse_terms.specs.Patterns.{literal_pattern as literal_pattern_piece};
 ghost use Rattle.campl_parse_terms.specs.Reads.{Reads};
 
@@ -18,27 +18,39 @@ use std::alloc::Global;
 
 /// Whether a pattern of one word may begin with the next word, or a negative number.
 fn starts_simple(cursor: &Cursor<'_>) -> bool
-    ensures { result ≡ next_in terminals (starts simple_pattern_name) cursor.now }
+    ensures { result ≡ next_in terminals (starts name.simple_pattern) cursor.now }
 {
-    cursor.at(Kind::Wildcard)
-        || cursor.at(Kind::Lower)
-        || cursor.at(Kind::Number)
-        || cursor.at(Kind::Minus)
-        || cursor.at(Kind::Character)
-        || cursor.at(Kind::Text)
-        || cursor.at(Kind::True)
-        || cursor.at(Kind::False)
+    let kinds = [
+        Kind::Wildcard,
+        Kind::Lower,
+        Kind::Number,
+        Kind::Minus,
+        Kind::Character,
+        Kind::Text,
+        Kind::True,
+        Kind::False,
+    ];
+    cursor.at_any(&kinds)
 }
 
 /// Whether a pattern may begin with the next word.
-#[tactic(auto, using(crate::proofs::Starts::starts_patterns))]
 fn starts_pattern(cursor: &Cursor<'_>) -> bool
-    ensures { result ≡ next_in terminals (starts patterns_name) cursor.now }
+    ensures { result ≡ next_in terminals (starts name.patterns) cursor.now }
 {
-    starts_simple(cursor)
-        || cursor.at(Kind::Upper)
-        || cursor.at(Kind::LeftBracket)
-        || cursor.at(Kind::LeftParen)
+    let kinds = [
+        Kind::Wildcard,
+        Kind::Lower,
+        Kind::Number,
+        Kind::Minus,
+        Kind::Character,
+        Kind::Text,
+        Kind::True,
+        Kind::False,
+        Kind::Upper,
+        Kind::LeftBracket,
+        Kind::LeftParen,
+    ];
+    cursor.at_any(&kinds)
 }
 
 /// A number, a negative number, a character, a text or a truth value.
@@ -77,7 +89,7 @@ fn literal_pattern(
 /// A pattern without parts.
 #[tactic(auto, using(campl_grammar::proofs::ByRule::reads_simple_pattern))]
 fn simple_pattern(alloc: Global, cursor: &mut Cursor<'_>, depth: u32) -> Result<Pattern, ParseError>
-    ensures { Reads (read simple_pattern_name depth cursor.old) result cursor.new }
+    ensures { Reads (read name.simple_pattern depth cursor.old) result cursor.new }
 {
     if cursor.at(Kind::Wildcard) {
         let word = read!(cursor.expect(Kind::Wildcard, depth));
@@ -94,7 +106,7 @@ fn simple_pattern(alloc: Global, cursor: &mut Cursor<'_>, depth: u32) -> Result<
 #[cycle(pattern)]
 #[tactic(auto, using(campl_grammar::proofs::ByRule::reads_patom))]
 fn patom(alloc: Global, cursor: &mut Cursor<'_>, depth: u32) -> Result<Pattern, ParseError>
-    ensures { Reads (read patom_name depth cursor.old) result cursor.new }
+    ensures { Reads (read name.patom depth cursor.old) result cursor.new }
 {
     if starts_simple(cursor) {
         return simple_pattern(alloc, cursor, depth);
@@ -116,7 +128,7 @@ fn constructor_pattern(
     cursor: &mut Cursor<'_>,
     depth: u32,
 ) -> Result<Pattern, ParseError>
-    ensures { Reads (read constructor_pattern_name depth cursor.old) result cursor.new }
+    ensures { Reads (read name.constructor_pattern depth cursor.old) result cursor.new }
 {
     let word = read!(cursor.expect(Kind::Upper, depth));
     let name = made!(word.name(alloc));
@@ -134,7 +146,7 @@ fn constructor_pattern(
 #[cycle(pattern)]
 #[tactic(auto, using(campl_grammar::proofs::ByRule::reads_list_pattern))]
 fn list_pattern(alloc: Global, cursor: &mut Cursor<'_>, depth: u32) -> Result<Pattern, ParseError>
-    ensures { Reads (read list_pattern_name depth cursor.old) result cursor.new }
+    ensures { Reads (read name.list_pattern depth cursor.old) result cursor.new }
 {
     let place = cursor.place();
     read!(cursor.expect(Kind::LeftBracket, depth));
@@ -151,7 +163,7 @@ fn grouped_pattern(
     cursor: &mut Cursor<'_>,
     depth: u32,
 ) -> Result<Pattern, ParseError>
-    ensures { Reads (read grouped_pattern_name depth cursor.old) result cursor.new }
+    ensures { Reads (read name.grouped_pattern depth cursor.old) result cursor.new }
 {
     let place = cursor.place();
     read!(cursor.expect(Kind::LeftParen, depth));
@@ -171,7 +183,7 @@ fn grouped_pattern(
 #[cycle(pattern)]
 #[tactic(auto, using(campl_grammar::proofs::ByRule::reads_pattern))]
 pub fn pattern(alloc: Global, cursor: &mut Cursor<'_>, depth: u32) -> Result<Pattern, ParseError>
-    ensures { Reads (read pattern_name depth cursor.old) result cursor.new }
+    ensures { Reads (read name.pattern depth cursor.old) result cursor.new }
 {
     let place = cursor.place();
     let left = read!(patom(alloc, cursor, depth));
@@ -193,7 +205,7 @@ fn patterns(
     depth: u32,
     mut found: Items<Pattern>,
 ) -> Result<Items<Pattern>, ParseError>
-    ensures { Reads (adds found (read patterns_name depth cursor.old)) result cursor.new }
+    ensures { Reads (adds found (read name.patterns depth cursor.old)) result cursor.new }
 {
     made!(found.push(read!(pattern(alloc, cursor, depth))));
     if !cursor.at(Kind::Comma) {

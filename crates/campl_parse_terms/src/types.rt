@@ -20,13 +20,16 @@ use std::alloc::Global;
 fn starts_stype(cursor: &Cursor<'_>) -> bool
     ensures { result ≡ next_in terminals (starts name.stype) cursor.now }
 {
-    cursor.at(Kind::IntType)
-        || cursor.at(Kind::CharType)
-        || cursor.at(Kind::BoolType)
-        || cursor.at(Kind::LeftBracket)
-        || cursor.at(Kind::Lower)
-        || cursor.at(Kind::Upper)
-        || cursor.at(Kind::LeftParen)
+    let kinds = [
+        Kind::IntType,
+        Kind::CharType,
+        Kind::BoolType,
+        Kind::LeftBracket,
+        Kind::Lower,
+        Kind::Upper,
+        Kind::LeftParen,
+    ];
+    cursor.at_any(&kinds)
 }
 
 /// Types of values with commas between them, or none.
@@ -166,12 +169,15 @@ pub fn type_arguments(
 fn starts_ctype(cursor: &Cursor<'_>) -> bool
     ensures { result ≡ next_in terminals (starts name.ctype) cursor.now }
 {
-    cursor.at(Kind::PutType)
-        || cursor.at(Kind::GetType)
-        || cursor.at(Kind::NegType)
-        || cursor.at(Kind::TopBot)
-        || cursor.at(Kind::Upper)
-        || cursor.at(Kind::LeftParen)
+    let kinds = [
+        Kind::PutType,
+        Kind::GetType,
+        Kind::NegType,
+        Kind::TopBot,
+        Kind::Upper,
+        Kind::LeftParen,
+    ];
+    cursor.at_any(&kinds)
 }
 
 /// Types of channels with commas between them, or none.

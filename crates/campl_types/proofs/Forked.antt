@@ -72,6 +72,6 @@ divided-by-names w vs held x y left z right keep d =
 pub forks-by-names : (w : World) (vs : Vars) (held : Held) (at : Place) (x y : Ident) (left : Body) (z : Ident) (right : Body)
     → IsWellFormed w vs held (b.Fork at x y left z right) ↔ IsDividedByNames w vs held x y left z right
 forks-by-names w vs held at x y left z right = (
-  λ d. divided-by-names w vs held x y left z right d.4 (d.0, d.1, d.2, d.3, d.5, d.6, d.7, d.8, d.9),
-  λ d. (d.0, d.1, d.2, d.3, λ n. is_free n left, d.4, d.5, d.6, d.7, d.8),
+  λ d. divided-by-names w vs held x y left z right d.0 d.1,
+  λ d. (λ n. is_free n left, d),
 )

@@ -41,8 +41,8 @@ mutual
       (names-held w vs _ body d.6.2 n ∙ still held n x.name _ d.3)
       (rows-name-held w vs held x.name d.0 d.2 rows (On d.0 d.1) d.3 d.6.3 n))
   names-held w vs held (b.Fork at x y left z right) d n =
-      forks held n x.name y.name z.name d.4 (On d.0 d.2) (On d.0 d.3) (is_free n left) (is_free n right) d.5 d.7
-      (names-held w vs _ left d.8 n) (names-held w vs _ right d.9 n)
+      forks held n x.name y.name z.name d.0 (On d.1.0 d.1.2) (On d.1.0 d.1.3) (is_free n left) (is_free n right) d.1.4 d.1.6
+      (names-held w vs _ left d.1.7 n) (names-held w vs _ right d.1.8 n)
   names-held w vs held (b.Plug at ls parts) d n =
       ap (λ p. not (is_among n (link_names ls)) && p) (parts-name-headers w vs (links_in ls) held parts d.3 n) ∙ plugs ls held parts n (d.2.0 n)
   names-held w vs held (b.Race at b.no_branches) d n = absurd (too-few d.0.0)

@@ -1,19 +1,16 @@
 -- The free channel names of a body. A name is free where a command or a header names it, and no command of
 -- the body round that place binds it. In a well formed body the free names are exactly those that are held,
 -- so at a `fork` they tell which channels go to which body (proofs/FreeNames).
-use Rattle.std.specs.Prelude.{◌≡◌, Bool, false, not, ◌&&◌, ◌||◌, List, [], ◌∷◌, Some, None}
+use Rattle.std.specs.Prelude.{Bool, false, not, ◌&&◌, ◌||◌, List, [], ◌∷◌, Some, None}
 use Rattle.campl_tree.specs.declared.place.Ident.{Ident}
-use Rattle.campl_tree.specs.declared.service.Side.{Side}
-use Rattle.campl_tree.specs.Plain.ChanType.{ChanType}
 use Rattle.campl_tree.specs.Plain.Process as b
 use Rattle.campl_tree.specs.Plain.Process.{Action, Body, HcaseRows, CaseRows, Branches, Parts}
 use Rattle.campl_types.specs.Names.{Name, same_name, is_among}
 use Rattle.campl_types.specs.World.{World, names_of}
-use Rattle.campl_types.specs.Polarity.{Forks, deed}
 use Rattle.campl_types.specs.Fits.{Vars}
-use Rattle.campl_types.specs.Held.{On, Held, with, without, only}
+use Rattle.campl_types.specs.Held.{Held}
 use Rattle.campl_types.specs.Headers.{link_names}
-use Rattle.campl_types.specs.Linear.{AreNew, IsWellFormed}
+use Rattle.campl_types.specs.Linear.{IsDivided, IsWellFormed}
 
 -- Free names
 
@@ -71,13 +68,10 @@ abbrev mutual
 
 -- Forks
 
--- a fork is well formed by this division of the other channels: those that are kept go to the first body
+-- a fork is well formed by this division of the other channels
 abbrev pub IsDividedBy : (keep : Name → Bool) → World → Vars → Held → (x y : Ident) → (left : Body) → (z : Ident) → (right : Body) → Type 0
 IsDividedBy keep w vs held x y left z right =
-    (s : Side) × (u : ChanType) × (t : ChanType) × (r : ChanType)
-    × (held x.name ≡ Some (On s u)) × (deed w s u ≡ Forks t r) × AreNew x.name y.name z.name held
-    × IsWellFormed w vs (with y.name (Some (On s t)) (only keep (without x.name held))) left
-    × IsWellFormed w vs (with z.name (Some (On s r)) (only (λ c. not (keep c)) (without x.name held))) right
+    IsDivided keep w held x.name y.name z.name (λ h. IsWellFormed w vs h left) (λ h. IsWellFormed w vs h right)
 
 -- by free names: each other channel goes to the first body where it is free there, and to the second otherwise
 abbrev pub IsDividedByNames : World → Vars → Held → (x y : Ident) → (left : Body) → (z : Ident) → (right : Body) → Type 0

@@ -1,8 +1,8 @@
 -- The channels that a process holds, each on a side and with its type.
-use Rattle.std.specs.Prelude.{◌≡◌, Bool, true, false, ◌&&◌, IsTrue, List, [], ◌∷◌, Option, Some, None, if◌then◌else◌}
+use Rattle.std.specs.Prelude.{◌≡◌, Bool, true, false, ◌&&◌, IsTrue, List, Option, Some, None, if◌then◌else◌}
 use Rattle.campl_tree.specs.declared.service.Side.{Side}
 use Rattle.campl_tree.specs.Plain.ChanType.{ChanType, Put, Get, Tensor, Par, TopBot, Neg, Named}
-use Rattle.campl_types.specs.Names.{Name, same_name, is_among}
+use Rattle.campl_types.specs.Names.{Name, same_name, is_among, is_empty}
 use Rattle.campl_types.specs.Substitution.{variables_of, variables_of_all}
 
 pub data Channel : Type 0 where
@@ -28,10 +28,6 @@ only keep held y = if keep y then held y else None
 -- nothing is held but under these names
 abbrev pub HoldsOnly : List Name → Held → Type 0
 HoldsOnly names held = (y : Name) → is_among y names ≡ false → held y ≡ None
-
-abbrev is_empty : List Name → Bool
-is_empty [] = true
-is_empty (x ∷ xs) = false
 
 abbrev pub is_closed : ChanType → Bool
 is_closed (Put t x) = is_empty (variables_of t) && is_closed x

@@ -94,6 +94,14 @@ abbrev pub AreJoined : Bool → (s r : Side) → (t u : ChanType) → Type 0
 AreJoined false s r t u = (r ≡ opposite s) × IsSameChan t u
 AreJoined true s r t u = (r ≡ s) × IsSameChan t (Neg u)
 
+-- a fork divides the other channels: its first body has those that are kept, and y; the second has the others, and z
+abbrev pub IsDivided : (keep : Name → Bool) → World → Held → (x y z : Name) → (first second : Held → Type 0) → Type 0
+IsDivided keep w held x y z first second =
+    (s : Side) × (u : ChanType) × (t : ChanType) × (r : ChanType)
+    × (held x ≡ Some (On s u)) × (deed w s u ≡ Forks t r) × AreNew x y z held
+    × first (with y (Some (On s t)) (only keep (without x held)))
+    × second (with z (Some (On s r)) (only (λ c. not (keep c)) (without x held)))
+
 -- Bodies
 
 abbrev mutual
@@ -124,10 +132,7 @@ abbrev mutual
       (s : Side) × (u : ChanType) × (cs : Choices)
       × (held x.name ≡ Some (On s u)) × (deed w s u ≡ Offers cs) × HasEachOnce rows cs × RowsAreWellFormed w vs held x.name s cs rows × IsTrue (has_row rows)
   IsWellFormed w vs held (b.Fork at x y left z right) =
-      (s : Side) × (u : ChanType) × (t : ChanType) × (r : ChanType) × (keep : Name → Bool)
-      × (held x.name ≡ Some (On s u)) × (deed w s u ≡ Forks t r) × AreNew x.name y.name z.name held
-      × IsWellFormed w vs (with y.name (Some (On s t)) (only keep (without x.name held))) left
-      × IsWellFormed w vs (with z.name (Some (On s r)) (only (λ c. not (keep c)) (without x.name held))) right
+      (keep : Name → Bool) × IsDivided keep w held x.name y.name z.name (λ h. IsWellFormed w vs h left) (λ h. IsWellFormed w vs h right)
   IsWellFormed w vs held (b.Plug at links parts) =
       between 2 (count parts) most_parts × IsTrue (are_distinct (link_names links)) × Divide (links_in links) held parts
       × PartsAreWellFormed w vs (links_in links) held parts

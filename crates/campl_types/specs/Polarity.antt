@@ -107,15 +107,6 @@ act_of (Offers cs) = act.Offer
 act_of Ends = act.End
 act_of IsLinked = act.Link
 
--- the table's entry at a named type
-abbrev pub named_act : Option TypeEntry → Side → Act
-named_act (Some (ProtocolType d)) Output = act.Pick
-named_act (Some (ProtocolType d)) Input = act.Offer
-named_act (Some (CoprotocolType d)) Output = act.Offer
-named_act (Some (CoprotocolType d)) Input = act.Pick
-named_act (Some (DataType d)) side = act.Link
-named_act None side = act.Link
-
 -- the table's entry
 abbrev pub allowed : World → ChanType → Side → Act
 allowed w t side = act_of (deed w side t)

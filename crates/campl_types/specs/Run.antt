@@ -9,7 +9,7 @@ use Rattle.campl_tree.specs.Plain.ChanType.{ChanType, Named}
 use Rattle.campl_tree.specs.Plain.Decl.{ProcessDecl}
 use Rattle.campl_types.specs.declared.fault.NameFault.{NameFault}
 use Rattle.campl_types.specs.declared.fault.NameFault.TheVariants.{NoRun, RunNotService}
-use Rattle.campl_types.specs.Names.{Name, same_name}
+use Rattle.campl_types.specs.Names.{Name, same_name, is_empty}
 use Rattle.campl_types.specs.World.{World, process_named}
 
 -- at most so many services
@@ -23,10 +23,6 @@ is_type_named x _ = false
 abbrev pub all : (ChanType → Bool) → List ChanType → Bool
 all f [] = true
 all f (t ∷ ts) = f t && all f ts
-
-abbrev pub is_empty : {A : Type 0} → List A → Bool
-is_empty [] = true
-is_empty (x ∷ xs) = false
 
 -- it has no variables, consoles as inputs, terminals as outputs, and not too many of both
 abbrev pub has_services_alone : ProcessDecl → Bool

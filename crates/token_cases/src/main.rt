@@ -38,7 +38,7 @@ fn form_of(argument: &str) -> Result<Form> {
 
 // The text of a file.
 fn read_file(rt: &impl Files, alloc: Global, file: &str) -> Result<Text> {
-    let mut shelf = FileShelf::new(rt);
+    let mut shelf = FileShelf::new(rt, alloc);
     match read_text(alloc, &mut shelf, file, FILE_LIMIT) {
         Ok(text) => Ok(text),
         Err(_) => bail!("the file is no text within the limit"),

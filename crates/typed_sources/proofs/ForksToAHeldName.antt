@@ -5,4 +5,4 @@ use Rattle.campl_types.specs.Typed.{IsTyped}
 use Rattle.typed_sources.specs.ForksToAHeldName.{forks_to_a_held_name}
 
 pub refused : IsTyped forks_to_a_held_name → ⊥
-refused h = none-some _ (sym h.processes.0.5.7.0)
+refused h = none-some _ (sym h.processes.0.5.1.6.0)

@@ -52,7 +52,7 @@ pub fork : {w : World} {vs : Vars} {names : List Name} {held : Held} {at : Place
 fork keeps i j new first second =
     record {
       well-formed = λ h.
-          (_, _, _, _, λ c. is_among c keeps, i, j, new, first.well-formed (more _ (kept _ (more _ h))), second.well-formed (more _ (kept _ (more _ h))));
+          (λ c. is_among c keeps, (_, _, _, _, i, j, new, first.well-formed (more _ (kept _ (more _ h))), second.well-formed (more _ (kept _ (more _ h)))));
     }
 
 -- plug

@@ -9,7 +9,6 @@ pub mod FirstOfTexts
 pub mod FirstRowWins
 pub mod GivesABox
 pub mod HaltsAtOnce
-pub mod LeavesAPartApart
 pub mod LinksBehindASend
 pub mod LinksThroughNeg
 pub mod NeverReturns
@@ -18,9 +17,10 @@ pub mod RacesADoor
 pub mod RacesTwoTerminals
 pub mod ReadsALine
 pub mod SendsAhead
-pub mod SharesTwoChannels
 pub mod UsesAllCommands
 pub mod UsesAllExpressions
+pub mod LeavesAPartApart
+pub mod SharesTwoChannels
 pub mod CallsWithoutAnArgument
 pub mod ComparesPairs
 pub mod FirstOfANumber

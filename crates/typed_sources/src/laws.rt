@@ -1,4 +1,4 @@
-//! The laws of accepted sources, functions with nothing to do, whose contracts they are.
+//! The laws of typed sources, functions with nothing to do, whose contracts they are.
 ghost use Rattle.campl_types.specs.Typed.{IsTyped};
 ghost use Rattle.typed_sources.specs.Bank.{bank};
 ghost use Rattle.typed_sources.specs.ChainOfStages.{chain_of_stages};
@@ -67,11 +67,6 @@ pub fn law_halts_at_once()
     ensures { IsTyped halts_at_once }
 {}
 
-/// `data/leaves_a_part_apart.campl` is typed.
-pub fn law_leaves_a_part_apart()
-    ensures { IsTyped leaves_a_part_apart }
-{}
-
 /// `data/links_behind_a_send.campl` is typed.
 pub fn law_links_behind_a_send()
     ensures { IsTyped links_behind_a_send }
@@ -112,11 +107,6 @@ pub fn law_sends_ahead()
     ensures { IsTyped sends_ahead }
 {}
 
-/// `data/shares_two_channels.campl` is typed.
-pub fn law_shares_two_channels()
-    ensures { IsTyped shares_two_channels }
-{}
-
 /// `data/uses_all_commands.campl` is typed.
 pub fn law_uses_all_commands()
     ensures { IsTyped uses_all_commands }
@@ -125,4 +115,14 @@ pub fn law_uses_all_commands()
 /// `data/uses_all_expressions.campl` is typed.
 pub fn law_uses_all_expressions()
     ensures { IsTyped uses_all_expressions }
+{}
+
+/// `data/no_tree/leaves_a_part_apart.campl` is typed, though its plug is no tree.
+pub fn law_leaves_a_part_apart()
+    ensures { IsTyped leaves_a_part_apart }
+{}
+
+/// `data/no_tree/shares_two_channels.campl` is typed, though its plug is no tree.
+pub fn law_shares_two_channels()
+    ensures { IsTyped shares_two_channels }
 {}

@@ -193,7 +193,7 @@ other-type (r, u, cs, z, i, j, k, rest) = cc (one-deed bits i j, k)
 --     b -> halt b
 -- forgets y
 forgets : IsWellFormed prelude [] (two Output (Tensor TopBot TopBot) Input TopBot) (b.Fork (place 1 1) x (ident 2 5 (codes "a")) (b.Halt (place 2 10) (Some (ident 2 15 (codes "a")))) (ident 3 5 (codes "b")) (b.Halt (place 3 10) (Some (ident 3 15 (codes "b"))))) → ⊥
-forgets (r, u, t, v, keep, i, j, new, (ra, ua, ia, ja, left), (rb, ub, ib, jb, right)) = somewhere (keep (codes "y")) _ (left (codes "y") refl) (right (codes "y") refl)
+forgets (keep, (r, u, t, v, i, j, new, (ra, ua, ia, ja, left), (rb, ub, ib, jb, right))) = somewhere (keep (codes "y")) _ (left (codes "y") refl) (right (codes "y") refl)
   where
     somewhere : (p : Bool) (c : Channel) → (if p then Some c else None) ≡ None → (if not p then Some c else None) ≡ None → ⊥
     somewhere true c k l = cc k

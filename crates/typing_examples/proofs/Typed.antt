@@ -51,7 +51,7 @@ speaks =
 --     b -> halt b
 forks : IsWellFormed prelude [] (with (codes "x") (Some (On Output (Tensor TopBot TopBot))) nothing_held) (b.Fork (place 1 1) (ident 1 6 (codes "x")) (ident 2 5 (codes "a")) (b.Halt (place 2 10) (Some (ident 2 15 (codes "a")))) (ident 3 5 (codes "b")) (b.Halt (place 3 10) (Some (ident 3 15 (codes "b")))))
 forks =
-    (_, _, _, _, λ y. true, refl, refl, (refl, refl, refl), (_, _, refl, refl, λ y i. rw (not-among (codes "a") y i) (kept y)), (_, _, refl, refl, λ y i. rw (not-among (codes "b") y i) refl))
+    (λ y. true, (_, _, _, _, refl, refl, (refl, refl, refl), (_, _, refl, refl, λ y i. rw (not-among (codes "a") y i) (kept y)), (_, _, refl, refl, λ y i. rw (not-among (codes "b") y i) refl)))
   where
     kept : (y : Name) → with (codes "x") None (with (codes "x") (Some (On Output (Tensor TopBot TopBot))) nothing_held) y ≡ None
     kept y = go (same_name (codes "x") y)

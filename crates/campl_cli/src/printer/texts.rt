@@ -1,7 +1,7 @@
 //! The texts that a body prints.
 ghost use Rattle.std.specs.Prelude.{◌≡◌, ◌≤◌, [], IfOk, Some, None, map, option_map, length, if◌then◌else◌, chars, string_bytes};
 ghost use Rattle.campl_tree.specs.View.{view_action, view_last, view_expr};
-ghost use Rattle.campl_cli.specs.Form.{is as is_word, on as on_channel, text_in as text_of_value, printed_text as printed_text_of, nothing_more, printed_on, halted as halted_channel, characters_of_all};
+ghost use Rattle.campl_cli.specs.Form.{is as is_word, on as on_channel, text_in as text_of_value, printed_text as printed_text_of, nothing_more, printed_on, halted_channel, characters_of_all};
 
 use campl_tree::{Action, Expr, Ident, Last, Name};
 use std::alloc::{AllocError, Global};

@@ -1,13 +1,13 @@
 //! The words `case` with which an expression begins.
 ghost use Rattle.std.specs.Prelude.{◌≡◌, MatchResult};
 ghost use Rattle.campl_grammar.specs.Rules.{read, piece};
-ghost use Rattle.campl_grammar.specs.Names.{expr as expr_name};
+ghost use Rattle.campl_grammar.specs.Names as name;
 ghost use Rattle.campl_parse_terms.specs.Expressions.{without_case as without_case_piece, ends_cases};
 ghost use Rattle.campl_parse_terms.specs.Reads.{Fails};
 
-use campl_grammar::Kind;
 use crate::cursor::Cursor;
 use crate::error::ParseError;
+use campl_grammar::Kind;
 use campl_tree::Place;
 use sqlite_items::Items;
 use std::alloc::Global;
@@ -18,7 +18,7 @@ pub fn begin_cases(
     cursor: &mut Cursor<'_>,
     depth: u32,
 ) -> Result<Items<Place>, ParseError>
-    ensures { MatchResult result (λ places. ends_cases places depth (piece without_case_piece depth cursor.new) ≡ read expr_name depth cursor.old) (λ e. Fails (read expr_name depth cursor.old) e cursor.new) }
+    ensures { MatchResult result (λ places. ends_cases places depth (piece without_case_piece depth cursor.new) ≡ read name.expr depth cursor.old) (λ e. Fails (read name.expr depth cursor.old) e cursor.new) }
 {
     let mut places = Items::new(alloc);
     'cases: while cursor.at(Kind::Case) {

@@ -5,7 +5,7 @@ use Rattle.campl_types.specs.Known.{each, in_chan}
 use Rattle.campl_names.specs.Scope.{heading}
 use Rattle.campl_names.proofs.judge_bodies.judge_links_under.Given as goal
 
-abbrev pub invariant-loop-i : goal.invariant-loop-i
-invariant-loop-i l =
-    each (λ (k : Link). in_chan (map view_decl l.world) (heading l.parameters None) k.channel_type) (map view_link (drop l.i l.links))
+abbrev pub invariant-loop-link : goal.invariant-loop-link
+invariant-loop-link l =
+    each (λ (k : Link). in_chan (map view_decl l.world) (heading l.parameters None) k.channel_type) (map view_link (drop l.link-index l.links))
     ≡ each (λ (k : Link). in_chan (map view_decl l.world) (heading l.parameters None) k.channel_type) (map view_link l.links)

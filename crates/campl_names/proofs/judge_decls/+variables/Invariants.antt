@@ -4,6 +4,6 @@ use Rattle.campl_names.specs.Scope.{with_names}
 use Rattle.campl_types.specs.Substitution.{variables_of_all}
 use Rattle.campl_names.proofs.judge_decls.+variables.Given as goal
 
-abbrev pub invariant-add_all_variables-loop-i : goal.invariant-add_all_variables-loop-i
-invariant-add_all_variables-loop-i l =
-    with_names l.set (variables_of_all (seq_types (map view_seq (drop l.i l.ts)))) ≡ with_names l.initial.set (variables_of_all (seq_types (map view_seq l.ts)))
+abbrev pub invariant-add_all_variables-loop-t : goal.invariant-add_all_variables-loop-t
+invariant-add_all_variables-loop-t l =
+    with_names l.set (variables_of_all (seq_types (map view_seq (drop l.t-index l.ts)))) ≡ with_names l.initial.set (variables_of_all (seq_types (map view_seq l.ts)))

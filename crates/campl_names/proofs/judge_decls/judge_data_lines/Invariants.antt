@@ -5,6 +5,6 @@ use Rattle.campl_types.specs.Known.{each, in_seq}
 use Rattle.campl_names.specs.Scope.{heading}
 use Rattle.campl_names.proofs.judge_decls.judge_data_lines.Given as goal
 
-abbrev pub invariant-loop-i : goal.invariant-loop-i
-invariant-loop-i l =
-    each (λ (n : DataConstructor). each (in_seq (map view_decl l.world) (heading l.parameters None)) n.parts) (map view_data_constructor (drop l.i l.lines)) ≡ each (λ (n : DataConstructor). each (in_seq (map view_decl l.world) (heading l.parameters None)) n.parts) (map view_data_constructor l.lines)
+abbrev pub invariant-loop-line : goal.invariant-loop-line
+invariant-loop-line l =
+    each (λ (n : DataConstructor). each (in_seq (map view_decl l.world) (heading l.parameters None)) n.parts) (map view_data_constructor (drop l.line-index l.lines)) ≡ each (λ (n : DataConstructor). each (in_seq (map view_decl l.world) (heading l.parameters None)) n.parts) (map view_data_constructor l.lines)

@@ -6,4 +6,4 @@ use Rattle.campl_names.proofs.judge_exprs.+pattern.Goals as goal
 
 pub judge_patterns-returns-in_err-judge_pattern : goal.judge_patterns-returns-in_err-judge_pattern
 judge_patterns-returns-in_err-judge_pattern t c =
-    loop-stopped (λ q. in_patterns (map view_decl c.args.world.now) (patterns (map view_pattern q))) c.args.ps.now c.loop-i.i c.index-ps-i.result _ _ _ _ _ c.in_err-judge_pattern.ensures c.from_residual.ensures (omega (arith, c.loop-i-test.true)) c.index-ps-i.is c.loop-i.invariant refl
+    loop-stopped (λ q. in_patterns (map view_decl c.args.world.now) (patterns (map view_pattern q))) c.args.ps.now c.loop-p.p-index c.p-item.result _ _ _ _ _ c.in_err-judge_pattern.ensures c.from_residual.ensures (omega (arith, c.loop-p-test.true)) c.p-item.is c.loop-p.invariant refl

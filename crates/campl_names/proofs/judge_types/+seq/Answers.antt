@@ -8,4 +8,4 @@ use Rattle.campl_names.proofs.judge_types.+seq.Goals as goal
 
 pub judge_seqs-returns-in_err-judge_seq : goal.judge_seqs-returns-in_err-judge_seq
 judge_seqs-returns-in_err-judge_seq t c =
-    loop-stopped (λ q. in_seqs (map view_decl c.args.world.now) (heading c.args.parameters.now (option_copied c.args.local)) (seq_types (map view_seq q))) c.args.ts.now c.loop-i.i c.index-ts-i.result _ _ _ _ _ c.in_err-judge_seq.ensures c.from_residual.ensures (omega (arith, c.loop-i-test.true)) c.index-ts-i.is c.loop-i.invariant refl
+    loop-stopped (λ q. in_seqs (map view_decl c.args.world.now) (heading c.args.parameters.now (option_copied c.args.local)) (seq_types (map view_seq q))) c.args.ts.now c.loop-t.t-index c.t-item.result _ _ _ _ _ c.in_err-judge_seq.ensures c.from_residual.ensures (omega (arith, c.loop-t-test.true)) c.t-item.is c.loop-t.invariant refl

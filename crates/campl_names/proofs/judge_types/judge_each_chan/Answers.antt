@@ -7,4 +7,4 @@ use Rattle.campl_names.proofs.judge_types.judge_each_chan.Goals as goal
 
 pub returns-in_err-judge_chan : goal.returns-in_err-judge_chan
 returns-in_err-judge_chan c =
-    loop-stopped (λ q. each (in_chan (map view_decl c.args.world.now) (heading c.args.parameters.now None)) (map view_chan q)) c.args.ts.now c.loop-i.i c.index-ts-i.result _ _ _ _ _ c.in_err-judge_chan.ensures c.from_residual.ensures (omega (arith, c.loop-i-test.true)) c.index-ts-i.is c.loop-i.invariant refl
+    loop-stopped (λ q. each (in_chan (map view_decl c.args.world.now) (heading c.args.parameters.now None)) (map view_chan q)) c.args.ts.now c.loop-t.t-index c.t-item.result _ _ _ _ _ c.in_err-judge_chan.ensures c.from_residual.ensures (omega (arith, c.loop-t-test.true)) c.t-item.is c.loop-t.invariant refl

@@ -7,4 +7,4 @@ use Rattle.campl_names.proofs.judge_types.judge_each_seq.Goals as goal
 
 pub returns-in_err-judge_seq : goal.returns-in_err-judge_seq
 returns-in_err-judge_seq c =
-    loop-stopped (λ q. each (in_seq (map view_decl c.args.world.now) (heading c.args.parameters.now None)) (map view_seq q)) c.args.ts.now c.loop-i.i c.index-ts-i.result _ _ _ _ _ c.in_err-judge_seq.ensures c.from_residual.ensures (omega (arith, c.loop-i-test.true)) c.index-ts-i.is c.loop-i.invariant refl
+    loop-stopped (λ q. each (in_seq (map view_decl c.args.world.now) (heading c.args.parameters.now None)) (map view_seq q)) c.args.ts.now c.loop-t.t-index c.t-item.result _ _ _ _ _ c.in_err-judge_seq.ensures c.from_residual.ensures (omega (arith, c.loop-t-test.true)) c.t-item.is c.loop-t.invariant refl

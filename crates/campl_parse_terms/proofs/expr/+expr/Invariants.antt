@@ -1,13 +1,12 @@
 use Rattle.std.proofs.Common.{◌≡◌, ◌+◌, ◌-◌, ◌*◌, length, Ok}
-use Rattle.campl_gram.specs.Grammar.{nt}
-use Rattle.campl_gram.specs.Reading.{adds}
-use Rattle.campl_grammar.specs.Names.{erows}
-use Rattle.campl_grammar.specs.Rules.{read, piece, behind}
 use Rattle.campl_parse_terms.specs.Expressions.{ends_cases}
 use Rattle.campl_parse_terms.proofs.expr.+expr.Given as goal
 
 abbrev pub decreases-erows : goal.decreases-erows
-decreases-erows l = (201 - l.depth) * 16 + 14
+decreases-erows l = (201 - l.depth) * 16 + 1
+
+abbrev pub decreases-erows-block : goal.decreases-erows-block
+decreases-erows-block l = (201 - l.depth) * 16
 
 abbrev pub decreases-erow : goal.decreases-erow
 decreases-erow l = (201 - l.depth) * 16 + 13
@@ -36,71 +35,65 @@ decreases-end_case l = (201 - l.depth) * 16 + 10
 abbrev pub decreases-if_expr : goal.decreases-if_expr
 decreases-if_expr l = (201 - l.depth) * 16 + 10
 
-abbrev pub decreases-disjunction : goal.decreases-disjunction
-decreases-disjunction l = (201 - l.depth) * 16 + 10
+abbrev pub decreases-binary::disjunction : goal.decreases-binary::disjunction
+decreases-binary::disjunction l = (201 - l.depth) * 16 + 10
 
-abbrev pub decreases-conjunction : goal.decreases-conjunction
-decreases-conjunction l = (201 - l.depth) * 16 + 9
+abbrev pub decreases-binary::conjunction : goal.decreases-binary::conjunction
+decreases-binary::conjunction l = (201 - l.depth) * 16 + 9
 
-abbrev pub decreases-cmp : goal.decreases-cmp
-decreases-cmp l = (201 - l.depth) * 16 + 8
+abbrev pub decreases-binary::cmp : goal.decreases-binary::cmp
+decreases-binary::cmp l = (201 - l.depth) * 16 + 8
 
-abbrev pub decreases-joined : goal.decreases-joined
-decreases-joined l = (201 - l.depth) * 16 + 7
+abbrev pub decreases-binary::joined : goal.decreases-binary::joined
+decreases-binary::joined l = (201 - l.depth) * 16 + 7
 
-abbrev pub decreases-cons : goal.decreases-cons
-decreases-cons l = (201 - l.depth) * 16 + 6
+abbrev pub decreases-binary::cons : goal.decreases-binary::cons
+decreases-binary::cons l = (201 - l.depth) * 16 + 6
 
-abbrev pub decreases-append : goal.decreases-append
-decreases-append l = (201 - l.depth) * 16 + 6
+abbrev pub decreases-binary::append : goal.decreases-binary::append
+decreases-binary::append l = (201 - l.depth) * 16 + 6
 
-abbrev pub decreases-sum : goal.decreases-sum
-decreases-sum l = (201 - l.depth) * 16 + 6
+abbrev pub decreases-binary::sum : goal.decreases-binary::sum
+decreases-binary::sum l = (201 - l.depth) * 16 + 6
 
-abbrev pub decreases-terms : goal.decreases-terms
-decreases-terms l = (201 - l.depth) * 16 + 5
+abbrev pub decreases-binary::terms : goal.decreases-binary::terms
+decreases-binary::terms l = (201 - l.depth) * 16 + 5
 
-abbrev pub decreases-prod : goal.decreases-prod
-decreases-prod l = (201 - l.depth) * 16 + 5
+abbrev pub decreases-binary::prod : goal.decreases-binary::prod
+decreases-binary::prod l = (201 - l.depth) * 16 + 5
 
-abbrev pub decreases-factors : goal.decreases-factors
-decreases-factors l = (201 - l.depth) * 16 + 4
+abbrev pub decreases-binary::factors : goal.decreases-binary::factors
+decreases-binary::factors l = (201 - l.depth) * 16 + 4
 
-abbrev pub decreases-unary : goal.decreases-unary
-decreases-unary l = (201 - l.depth) * 16 + 4
+abbrev pub decreases-binary::unary : goal.decreases-binary::unary
+decreases-binary::unary l = (201 - l.depth) * 16 + 4
 
-abbrev pub decreases-atom : goal.decreases-atom
-decreases-atom l = (201 - l.depth) * 16 + 3
+abbrev pub decreases-atoms::atom : goal.decreases-atoms::atom
+decreases-atoms::atom l = (201 - l.depth) * 16 + 3
 
-abbrev pub decreases-variable : goal.decreases-variable
-decreases-variable l = (201 - l.depth) * 16 + 2
+abbrev pub decreases-atoms::variable : goal.decreases-atoms::variable
+decreases-atoms::variable l = (201 - l.depth) * 16 + 2
 
-abbrev pub decreases-code : goal.decreases-code
-decreases-code l = (201 - l.depth) * 16 + 2
+abbrev pub decreases-atoms::code : goal.decreases-atoms::code
+decreases-atoms::code l = (201 - l.depth) * 16 + 2
 
-abbrev pub decreases-character : goal.decreases-character
-decreases-character l = (201 - l.depth) * 16 + 2
+abbrev pub decreases-atoms::character : goal.decreases-atoms::character
+decreases-atoms::character l = (201 - l.depth) * 16 + 2
 
-abbrev pub decreases-constructor : goal.decreases-constructor
-decreases-constructor l = (201 - l.depth) * 16 + 2
+abbrev pub decreases-atoms::constructor : goal.decreases-atoms::constructor
+decreases-atoms::constructor l = (201 - l.depth) * 16 + 2
 
-abbrev pub decreases-listed : goal.decreases-listed
-decreases-listed l = (201 - l.depth) * 16 + 2
+abbrev pub decreases-atoms::listed : goal.decreases-atoms::listed
+decreases-atoms::listed l = (201 - l.depth) * 16 + 2
 
-abbrev pub decreases-pair : goal.decreases-pair
-decreases-pair l = (201 - l.depth) * 16 + 2
+abbrev pub decreases-atoms::pair : goal.decreases-atoms::pair
+decreases-atoms::pair l = (201 - l.depth) * 16 + 2
 
-abbrev pub decreases-grouped : goal.decreases-grouped
-decreases-grouped l = (201 - l.depth) * 16 + 2
+abbrev pub decreases-atoms::grouped : goal.decreases-atoms::grouped
+decreases-atoms::grouped l = (201 - l.depth) * 16 + 2
 
 abbrev pub invariant-end_cases-cases : goal.invariant-end_cases-cases
 invariant-end_cases-cases l = ends_cases l.places l.depth (Ok l.value, l.cursor) ≡ ends_cases l.fn.places l.fn.depth (Ok l.fn.innermost, l.fn.cursor)
 
 abbrev pub decreases-end_cases-cases : goal.decreases-end_cases-cases
 decreases-end_cases-cases l = length l.places
-
-abbrev pub invariant-erows-rows : goal.invariant-erows-rows
-invariant-erows-rows l = adds l.found (piece (behind (nt erows)) l.depth l.cursor) ≡ read erows l.fn.depth l.fn.cursor
-
-abbrev pub decreases-erows-rows : goal.decreases-erows-rows
-decreases-erows-rows l = length l.cursor
