@@ -839,7 +839,7 @@ fork-kept source c a p r i at x y one z two l there is e =
     subst (TermIsWellFormed (world_of source) t.vars (held_ends l.channel r.ends)) is t.term in
     let g = good.0 in
     let by_names : IsDividedByNames (world_of source) t.vars (held_ends l.channel r.ends) x y one z two =
-    divided-by-names (world_of source) t.vars (held_ends l.channel r.ends) x y one z two g.4 (g.0, g.1, g.2, g.3, g.5, g.6, g.7, g.8, g.9) in
+    divided-by-names (world_of source) t.vars (held_ends l.channel r.ends) x y one z two g.0 g.1 in
     let (s, u, first, second, held, forks, new, well, well_too) = by_names in
     let (end, f, on) = end-of l.channel r.ends x.name (On s u) held in
     let j : (l.place end ≡ At (Process p)) × IsJoined c end = own-place source c l p r there x.name end f in

@@ -6,10 +6,9 @@ use Rattle.campl_types.specs.Free.{all_have_constructors}
 use Rattle.campl_types.specs.Typed.{IsTyped}
 use Rattle.campl_types.specs.WellDeclared.{IsWellDeclared}
 use Rattle.campl_seqcheck.specs.Judged as seq
-use Rattle.campl_seqcheck.specs.Judged.{fine}
+use Rattle.campl_seqcheck.specs.Judged.{fine, Is}
 use Rattle.campl_seqcheck.specs.Functions.{judge_functions}
 use Rattle.campl_peel.specs.Trees.{ProcessesHaveTrees}
-use Rattle.campl_linear.specs.Judged.{Is}
 use Rattle.campl_linear.specs.Processes.{judge_processes}
 use Rattle.campl_linear.proofs.Processed.{sources-agree}
 use Rattle.campl_meaning.specs.Lawful.{IsAccepted}

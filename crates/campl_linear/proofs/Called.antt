@@ -19,22 +19,23 @@ use Rattle.campl_types.specs.Linear.{AreHanded}
 use Rattle.campl_types.proofs.Names.{same-is, same-itself}
 use Rattle.campl_types.proofs.SameType.{chan-same, same-chan}
 use Rattle.campl_seqcheck.specs.Judged as seq
-use Rattle.campl_seqcheck.specs.Judged.{Fine, fine}
+use Rattle.campl_seqcheck.specs.Judged.{Fine, fine, Is, and_then}
 use Rattle.campl_seqcheck.specs.Judging as values
 use Rattle.campl_seqcheck.specs.Judging.{count_of}
 use Rattle.campl_seqcheck.proofs.AgreesJudged as seqs
-use Rattle.campl_seqcheck.proofs.AgreesNames.{and-first, and-second, and-both, or-first, or-second, as-false, Apart}
-use Rattle.campl_seqcheck.proofs.AgreesSound.{PartsAreKnown, at-wanted, judge-typed}
+use Rattle.campl_seqcheck.proofs.AgreesSound.{at-wanted, judge-typed}
 use Rattle.campl_seqcheck.proofs.AgreesAlike.{SameVars}
 use Rattle.campl_seqcheck.proofs.AgreesComplete.{typed-judged}
-use Rattle.campl_linear.specs.Judged.{Is, and_then}
 use Rattle.campl_linear.specs.Holding.{Holding, as_held, given_up}
 use Rattle.campl_linear.specs.Channels.{held_at, same_side}
 use Rattle.campl_linear.specs.Calls.{values_fit, as_many, is_as_declared, as_declared, handed}
-use Rattle.campl_linear.proofs.Turns.{in-turn, or-none, no-both, not-true}
+use Rattle.campl_linear.proofs.Turns.{in-turn}
 use Rattle.campl_linear.proofs.Lists.{held-given-up, all_given_up}
 use Rattle.campl_linear.proofs.Headings.{ArePlain, stays}
 use Rattle.campl_linear.proofs.Uses.{held-is, side-is, side-same}
+use Rattle.campl_types.proofs.Truth.{and-first, and-second, and-both, or-first, or-second, as-false, or-none, no-both, not-true}
+use Rattle.campl_types.proofs.Among.{Apart}
+use Rattle.campl_types.specs.Values.{PartsAreKnown}
 
 -- Values
 

@@ -1,7 +1,6 @@
 -- A body that is well formed, and whose plugs' parts form trees, is judged to have no fault. The variables with
 -- which it is judged may differ from those with which it is well formed in places of their types.
 use Rattle.std.proofs.Common.{◌≡◌, ◌∙◌, refl, sym, ap, subst, true, not, List, [], ◌∷◌, ◌++◌, length, Some, None, eqb, eq-eqb}
-use Rattle.std.specs.Prelude.{IsTrue}
 use Rattle.std.proofs.lemmas.List.{append-nil}
 use Rattle.campl_tree.specs.declared.place.Place.{Place}
 use Rattle.campl_tree.specs.declared.place.Ident.{Ident}
@@ -22,16 +21,14 @@ use Rattle.campl_types.specs.Headers.{links_in}
 use Rattle.campl_types.specs.Missing.{missing}
 use Rattle.campl_types.specs.SameType.{IsSame}
 use Rattle.campl_types.specs.Linear.{bound, body_rows, IsWellFormed, RowsAreWellFormed, BranchesAreWellFormed, CasesAreWellFormed, PartsAreWellFormed}
-use Rattle.campl_types.specs.Free.{is_free, all_have_constructors}
+use Rattle.campl_types.specs.Free.{is_free}
 use Rattle.campl_types.proofs.Forked.{forks-by-names}
-use Rattle.campl_seqcheck.specs.Judged.{fine}
+use Rattle.campl_seqcheck.specs.Judged.{fine, Is}
 use Rattle.campl_seqcheck.specs.Judging.{count_of}
-use Rattle.campl_seqcheck.proofs.AgreesSound.{PartsAreKnown}
 use Rattle.campl_seqcheck.proofs.AgreesAlike.{SameVars, same-vars-append}
 use Rattle.campl_seqcheck.proofs.AgreesMissing.{missing-same}
 use Rattle.campl_seqcheck.proofs.AgreesRefit.{fits-alone}
 use Rattle.campl_seqcheck.proofs.AgreesComplete.{typed-judged}
-use Rattle.campl_linear.specs.Judged.{Is}
 use Rattle.campl_linear.specs.Holding.{Holding, as_held, goes_on, those, given_up, comes}
 use Rattle.campl_linear.specs.Channels.{Used, to_put, to_get, to_pick, to_split, to_fork, to_end, to_offer}
 use Rattle.campl_linear.specs.Rows.{row_names, branch_names}
@@ -39,8 +36,7 @@ use Rattle.campl_linear.specs.Plugs.{share_of}
 use Rattle.campl_linear.specs.Bodies.{judge, judge_rows, judge_branches, judge_cases, judge_parts}
 use Rattle.campl_peel.specs.Trees.{PlugsAreTrees, RowsHaveTrees, BranchesHaveTrees, CasesHaveTrees, PartsHaveTrees}
 use Rattle.campl_linear.proofs.Lists.{held-given-up, held-goes-on, left-none, only-before, all_given_up, only-all}
-use Rattle.campl_linear.proofs.Repeats.{from-nothing}
-use Rattle.campl_linear.proofs.Named.{once-distinct, has-each-row, race-count}
+use Rattle.campl_linear.proofs.Named.{once-distinct, has-each-row, row-some, race-count}
 use Rattle.campl_linear.proofs.Headings.{IsPlain}
 use Rattle.campl_linear.proofs.Uses.{is-used, two-new, new-are, joins}
 use Rattle.campl_linear.proofs.Rowed.{distinct-rows, so-counted, receive-branches, fit-patterns}
@@ -48,12 +44,14 @@ use Rattle.campl_linear.proofs.Called.{typed-values, so-handed, before-all, turn
 use Rattle.campl_linear.proofs.Headers.{LinksAreNew, left-distinct}
 use Rattle.campl_linear.proofs.Plugged.{PlugStands, so-plug, stands-new, shares}
 use Rattle.campl_linear.proofs.Sound.{two-held, kept-held}
+use Rattle.campl_types.specs.Values.{PartsAreKnown}
+use Rattle.campl_types.proofs.Among.{from-nothing}
 
 bound-same : (v : Binder) (t : SeqType) (vs us : Vars) → SameVars vs us → SameVars (bound v t vs) (bound v t us)
 bound-same (binder.Variable at x) t vs us alike = (refl, refl, alike)
 bound-same (binder.Wildcard at) t vs us alike = alike
 
-module _ (w : World) (known : PartsAreKnown w) (plain : (x : Name) (p : ProcessDecl) → process_named w x ≡ Some p → IsPlain p) (some : IsTrue (all_have_constructors w)) where
+module _ (w : World) (known : PartsAreKnown w) (plain : (x : Name) (p : ProcessDecl) → process_named w x ≡ Some p → IsPlain p) where
   call-fine : (vs us : Vars) → SameVars vs us → (held : Holding) (at : Place) (x : Name) (args : Exprs) (inputs outputs : List Ident)
       → IsWellFormed w vs (as_held held) (b.Call at x args inputs outputs) → judge w us held (b.Call at x args inputs outputs) ≡ Is fine
   call-fine vs us alike held at x args inputs outputs (p, named, typed, ins, outs, distinct, only) =
@@ -103,9 +101,10 @@ module _ (w : World) (known : PartsAreKnown w) (plain : (x : Name) (p : ProcessD
         let u : Used Choices = record { side = d.0; held_type = d.1; may = d.2 } in
         let q = distinct-rows w vs (as_held held) x.name u [] rows d.6 (from-nothing (row_names rows) (once-distinct rows d.2 d.5)) in
         let r = has-each-row at rows d.2 d.5 in
-        rw (p, q, r) (rows-fine vs us alike held x.name u d.3 rows d.6 t)
+        let m = row-some at x.name u rows d.7 in
+        rw (p, q, r, m) (rows-fine vs us alike held x.name u d.3 rows d.6 t)
     judged-fine vs us alike held (b.Fork at x y left z right) given t =
-        let d = (forks-by-names w some vs (as_held held) at x y left z right).0 given in
+        let d = (forks-by-names w vs (as_held held) at x y left z right).0 given in
         let p = is-used w at x to_fork held d.0 d.1 (d.2, d.3) d.4 (ap to_fork d.5) in
         let n = new-are x.name y z held d.6 in
         let q = two-new y z (given_up x.name held) n in

@@ -11,18 +11,17 @@ use Rattle.campl_types.specs.Names.{Name, same_name, is_among, are_distinct, fou
 use Rattle.campl_types.specs.World.{names_of}
 use Rattle.campl_types.specs.Held.{Channel, On}
 use Rattle.campl_types.specs.Headers.{Links, links_in, link_names, times, times_in, times_out, IsUsed, NamesDiffer, Divide}
-use Rattle.campl_types.proofs.Names.{same-is, same-itself}
-use Rattle.campl_seqcheck.specs.Judged.{Fine, fine}
-use Rattle.campl_seqcheck.proofs.AgreesNames.{and-first, and-second, and-both, or-first, or-second, or-split, as-false, among-append, Apart, distinct-append}
-use Rattle.campl_linear.specs.Judged.{Is, and_then}
+use Rattle.campl_types.proofs.Names.{same-is, same-itself, among-append}
+use Rattle.campl_seqcheck.specs.Judged.{Fine, fine, Is, and_then}
 use Rattle.campl_linear.specs.Holding.{Holding, as_held}
 use Rattle.campl_linear.specs.Channels.{new_name, same_side}
 use Rattle.campl_peel.specs.Numbered.{outputs_in, inputs_in}
 use Rattle.campl_linear.specs.Plugs.{stands_once, links_are_new, may_stand, names_stand, headers_stand, uses, links_are_used, all_are_used}
-use Rattle.campl_linear.proofs.Turns.{in-turn, or-none, no-both, split}
-use Rattle.campl_linear.proofs.Repeats.{DistinctFrom, none-distinct, distinct-more, distinct-first, distinct-rest}
+use Rattle.campl_linear.proofs.Turns.{in-turn}
 use Rattle.campl_linear.proofs.Uses.{is-new, side-is, side-same}
 use Rattle.campl_linear.proofs.Standing.{among-some, among-none, at-most-once, on, on-out, on-in}
+use Rattle.campl_types.proofs.Truth.{and-first, and-second, and-both, or-first, or-second, or-split, as-false, or-none, no-both, split}
+use Rattle.campl_types.proofs.Among.{Apart, distinct-append, DistinctFrom, none-distinct, distinct-more, distinct-first, distinct-rest}
 
 -- Where a name may stand
 

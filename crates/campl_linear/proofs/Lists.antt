@@ -6,11 +6,10 @@ use Rattle.campl_types.specs.Names.{Name, same_name, is_among, found}
 use Rattle.campl_types.specs.World.{or_else}
 use Rattle.campl_types.specs.Held.{Channel, Held, with, without, only, HoldsOnly}
 use Rattle.campl_types.proofs.Names.{same-is, same-itself, same-turned}
-use Rattle.campl_seqcheck.specs.Judged.{Fine, fine}
-use Rattle.campl_linear.specs.Judged.{Is}
+use Rattle.campl_seqcheck.specs.Judged.{Fine, fine, Is}
 use Rattle.campl_linear.specs.Holding.{Holding, as_held, goes_on, those, given_up, comes}
 use Rattle.campl_linear.specs.Channels.{none_left}
-use Rattle.campl_linear.proofs.Turns.{or-none, no-both}
+use Rattle.campl_types.proofs.Truth.{or-none, no-both}
 
 -- Those that are kept
 

@@ -1,6 +1,5 @@
 -- Processes are judged to be fine exactly where they are typed and the parts of their plugs form trees.
 use Rattle.std.proofs.Common.{◌≡◌, ◌∙◌, ◌↔◌, refl, sym, ap, subst, Bool, true, false, List, [], ◌∷◌, ◌++◌, length, Some, eqb, eq-eqb}
-use Rattle.std.specs.Prelude.{IsTrue}
 use Rattle.std.proofs.lemmas.List.{append-nil}
 use Rattle.campl_tree.specs.declared.place.Ident.{Ident}
 use Rattle.campl_tree.specs.declared.process.Binder.{Binder}
@@ -17,17 +16,14 @@ use Rattle.campl_types.specs.World.{World, world_of, names_of, process_named}
 use Rattle.campl_types.specs.Fits.{Vars}
 use Rattle.campl_types.specs.Held.{On, with}
 use Rattle.campl_types.specs.Linear.{hold, row_channels, row_variables, IsWellFormed, ProcessIsTyped, ProcessesAreTyped}
-use Rattle.campl_types.specs.Free.{all_have_constructors}
 use Rattle.campl_seqcheck.specs.Judged as seq
-use Rattle.campl_seqcheck.specs.Judged.{Fine, fine, counted}
+use Rattle.campl_seqcheck.specs.Judged.{Fine, fine, Is, and_then}
 use Rattle.campl_seqcheck.proofs.AgreesJudged.{counts}
-use Rattle.campl_seqcheck.proofs.AgreesSound.{PartsAreKnown}
 use Rattle.campl_types.specs.Typed.{IsTyped}
 use Rattle.campl_seqcheck.specs.Functions.{judge_functions}
 use Rattle.campl_seqcheck.proofs.AgreesFunctions.{functions-agree}
-use Rattle.campl_seqcheck.proofs.AgreesWorlds.{parts-are-known}
 use Rattle.campl_seqcheck.proofs.AgreesAlike.{same-vars-itself}
-use Rattle.campl_linear.specs.Judged.{Is, and_then, from_seq}
+use Rattle.campl_linear.specs.Judged.{from_seq}
 use Rattle.campl_linear.specs.Holding.{Holding, as_held}
 use Rattle.campl_linear.specs.Calls.{as_many}
 use Rattle.campl_linear.specs.Bodies.{judge}
@@ -35,11 +31,14 @@ use Rattle.campl_linear.specs.Processes.{variables_bound, idents_of, names_diffe
 use Rattle.campl_peel.specs.Trees.{PlugsAreTrees, ProcessesHaveTrees}
 use Rattle.campl_linear.proofs.Turns.{in-turn, is-seq}
 use Rattle.campl_linear.proofs.Lists.{held-first}
-use Rattle.campl_linear.proofs.Repeats.{DistinctFrom, none-distinct, distinct-more, distinct-first, distinct-rest, from-nothing}
 use Rattle.campl_linear.proofs.Headings.{IsPlain, ProcessesArePlain, source-plain, world-plain, called-plain}
 use Rattle.campl_linear.proofs.Called.{many, so-many}
 use Rattle.campl_linear.proofs.Sound.{judge-sound}
 use Rattle.campl_linear.proofs.Complete.{judged-fine}
+use Rattle.campl_seqcheck.specs.Fitting.{counted}
+use Rattle.campl_types.specs.Values.{PartsAreKnown}
+use Rattle.campl_types.proofs.PartsKnown.{parts-are-known}
+use Rattle.campl_types.proofs.Among.{DistinctFrom, none-distinct, distinct-more, distinct-first, distinct-rest, from-nothing}
 
 -- The names of a row
 
@@ -107,14 +106,14 @@ module _ (w : World) (known : PartsAreKnown w) (plain : (x : Name) (p : ProcessD
         r.1,
       )
 
-  so-process : IsTrue (all_have_constructors w) → (p : ProcessDecl) → ProcessIsTyped w p → PlugsAreTrees p.row.body → judge_process w p ≡ Is fine
-  so-process some p h t =
+  so-process : (p : ProcessDecl) → ProcessIsTyped w p → PlugsAreTrees p.row.body → judge_process w p ≡ Is fine
+  so-process p h t =
       let d = so-names [] (idents_of p.row) (from-nothing (names_of (idents_of p.row)) (subst (λ ns. are_distinct ns ≡ true) (sym (row-named p.row)) h.0)) in
       let n : eqb (length p.row.variables) (length p.parameters) ≡ true = eq-eqb (length p.row.variables) (length p.parameters) h.1 in
       let k = so-many p.row.place (length p.row.inputs) (length p.inputs) h.2 in
       let l = so-many p.row.place (length p.row.outputs) (length p.outputs) h.3 in
       let vs = row_variables p.row.variables p.parameters in
-      let r = judged-fine w known plain some vs vs (same-vars-itself vs) (row_holding p) p.row.body (subst (λ g. IsWellFormed w vs g p.row.body) (sym (row-held p)) h.5) t in
+      let r = judged-fine w known plain vs vs (same-vars-itself vs) (row_holding p) p.row.body (subst (λ g. IsWellFormed w vs g p.row.body) (sym (row-held p)) h.5) t in
       rw (d, n, k, l) r
 
   all-so : (ds : List Decl) (f : Fine) → ProcessesArePlain ds → judge_processes w ds ≡ Is f → ProcessesAreTyped w ds × ProcessesHaveTrees ds
@@ -129,13 +128,13 @@ module _ (w : World) (known : PartsAreKnown w) (plain : (x : Name) (p : ProcessD
   all-so (Coprotocol d ∷ ds) f own i = let r = all-so ds f own.1 i in ((tt, r.0), (tt, r.1))
   all-so (Function d ∷ ds) f own i = let r = all-so ds f own.1 i in ((tt, r.0), (tt, r.1))
 
-  so-all : IsTrue (all_have_constructors w) → (ds : List Decl) → ProcessesAreTyped w ds → ProcessesHaveTrees ds → judge_processes w ds ≡ Is fine
-  so-all some [] h t = refl
-  so-all some (Process p ∷ ds) h t = let r = so-process some p h.0 t.0 in rw r (so-all some ds h.1 t.1)
-  so-all some (Data d ∷ ds) h t = so-all some ds h.1 t.1
-  so-all some (Protocol d ∷ ds) h t = so-all some ds h.1 t.1
-  so-all some (Coprotocol d ∷ ds) h t = so-all some ds h.1 t.1
-  so-all some (Function d ∷ ds) h t = so-all some ds h.1 t.1
+  so-all : (ds : List Decl) → ProcessesAreTyped w ds → ProcessesHaveTrees ds → judge_processes w ds ≡ Is fine
+  so-all [] h t = refl
+  so-all (Process p ∷ ds) h t = let r = so-process p h.0 t.0 in rw r (so-all ds h.1 t.1)
+  so-all (Data d ∷ ds) h t = so-all ds h.1 t.1
+  so-all (Protocol d ∷ ds) h t = so-all ds h.1 t.1
+  so-all (Coprotocol d ∷ ds) h t = so-all ds h.1 t.1
+  so-all (Function d ∷ ds) h t = so-all ds h.1 t.1
 
 -- In a well declared source
 
@@ -146,24 +145,24 @@ pub bodies-sound : (source : Program) → IsWellDeclared source → (vs : Vars) 
     → IsWellFormed (world_of source) vs (as_held held) body × PlugsAreTrees body
 bodies-sound source i vs held body j = judge-sound (world_of source) (parts-are-known source i) (heads source i) vs held body fine j
 
-pub bodies-agree : (source : Program) → IsWellDeclared source → IsTrue (all_have_constructors (world_of source)) → (vs : Vars) (held : Holding) (body : Body)
+pub bodies-agree : (source : Program) → IsWellDeclared source → (vs : Vars) (held : Holding) (body : Body)
     → judge (world_of source) vs held body ≡ Is fine ↔ (IsWellFormed (world_of source) vs (as_held held) body × PlugsAreTrees body)
-bodies-agree source i some vs held body = (
+bodies-agree source i vs held body = (
   bodies-sound source i vs held body,
-  λ h. judged-fine (world_of source) (parts-are-known source i) (heads source i) some vs vs (same-vars-itself vs) held body h.0 h.1,
+  λ h. judged-fine (world_of source) (parts-are-known source i) (heads source i) vs vs (same-vars-itself vs) held body h.0 h.1,
 )
 
 pub processes-sound : (source : Program) → IsWellDeclared source → judge_processes (world_of source) source ≡ Is fine → ProcessesAreTyped (world_of source) source × ProcessesHaveTrees source
 processes-sound source i j = all-so (world_of source) (parts-are-known source i) (heads source i) source fine (source-plain source i) j
 
-pub processes-agree : (source : Program) → IsWellDeclared source → IsTrue (all_have_constructors (world_of source))
+pub processes-agree : (source : Program) → IsWellDeclared source
     → judge_processes (world_of source) source ≡ Is fine ↔ (ProcessesAreTyped (world_of source) source × ProcessesHaveTrees source)
-processes-agree source i some = (processes-sound source i, λ h. so-all (world_of source) (parts-are-known source i) (heads source i) some source h.0 h.1)
+processes-agree source i = (processes-sound source i, λ h. so-all (world_of source) (parts-are-known source i) (heads source i) source h.0 h.1)
 
 -- a source has no fault of any phase exactly where it is typed and has trees
-pub sources-agree : (source : Program) → IsTrue (all_have_constructors (world_of source))
+pub sources-agree : (source : Program)
     → (IsWellDeclared source × (judge_functions (world_of source) source ≡ seq.Is fine) × (judge_processes (world_of source) source ≡ Is fine)) ↔ (IsTyped source × ProcessesHaveTrees source)
-sources-agree source some = (
+sources-agree source = (
   λ h. let r = processes-sound source h.0 h.2 in (record { declared = h.0; functions = (functions-agree source h.0).0 h.1; processes = r.0 }, r.1),
-  λ h. (h.0.declared, (functions-agree source h.0.declared).1 h.0.functions, (processes-agree source h.0.declared some).1 (h.0.processes, h.1)),
+  λ h. (h.0.declared, (functions-agree source h.0.declared).1 h.0.functions, (processes-agree source h.0.declared).1 (h.0.processes, h.1)),
 )

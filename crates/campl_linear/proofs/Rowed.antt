@@ -15,15 +15,14 @@ use Rattle.campl_types.specs.Held.{Channel, On, Held}
 use Rattle.campl_types.specs.Linear.{most_branches, between, receives_on, IsWellFormed, RowsAreWellFormed, BranchesAreWellFormed, CasesAreWellFormed}
 use Rattle.campl_types.proofs.Names.{same-is}
 use Rattle.campl_seqcheck.specs.Judged as seq
-use Rattle.campl_seqcheck.specs.Judged.{Fine, fine}
+use Rattle.campl_seqcheck.specs.Judged.{Fine, fine, Is, Fails, and_then}
 use Rattle.campl_seqcheck.proofs.AgreesRefit.{fits-alone}
 use Rattle.campl_linear.specs.Faults.{LinFault, CaseTwice}
-use Rattle.campl_linear.specs.Judged.{Is, Fails, and_then}
 use Rattle.campl_linear.specs.Holding.{Holding, as_held}
 use Rattle.campl_linear.specs.Channels.{held_at, Used}
 use Rattle.campl_linear.specs.Rows.{row_names, row_type, first_row, rows_offered, is_between, branch_names, branch_count, begins_with, deed_of, begins, branches_begin, patterns_fit}
 use Rattle.campl_linear.proofs.Turns.{in-turn, is-between, between-is}
-use Rattle.campl_linear.proofs.Repeats.{DistinctFrom, none-distinct, distinct-more, distinct-first, distinct-rest}
+use Rattle.campl_types.proofs.Among.{DistinctFrom, none-distinct, distinct-more, distinct-first, distinct-rest}
 
 -- `hcase`
 

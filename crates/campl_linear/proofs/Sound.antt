@@ -17,32 +17,33 @@ use Rattle.campl_types.specs.Held.{Channel, On, Held, with, without, only, Holds
 use Rattle.campl_types.specs.Headers.{links_in}
 use Rattle.campl_types.specs.Linear.{bound, body_rows, AreHanded, IsWellFormed, RowsAreWellFormed, BranchesAreWellFormed, CasesAreWellFormed, PartsAreWellFormed}
 use Rattle.campl_types.specs.Free.{is_free}
-use Rattle.campl_seqcheck.specs.Judged.{Fine, counted}
-use Rattle.campl_seqcheck.specs.Fitting.{fit}
+use Rattle.campl_seqcheck.specs.Judged.{Fine, Is, and_then}
+use Rattle.campl_seqcheck.specs.Fitting.{fit, counted}
 use Rattle.campl_seqcheck.specs.Judging.{exhaustive, count_of}
 use Rattle.campl_seqcheck.specs.Judging as values
 use Rattle.campl_seqcheck.proofs.AgreesJudged.{counts}
-use Rattle.campl_seqcheck.proofs.AgreesNames.{distinct-append}
 use Rattle.campl_seqcheck.proofs.AgreesFit.{fit-fits}
 use Rattle.campl_seqcheck.proofs.AgreesWanted.{exhaustive-is}
-use Rattle.campl_seqcheck.proofs.AgreesSound.{PartsAreKnown, alone-is, at-wanted, judge-typed}
-use Rattle.campl_linear.specs.Judged.{Is, and_then, from_seq}
+use Rattle.campl_seqcheck.proofs.AgreesSound.{alone-is, at-wanted, judge-typed}
+use Rattle.campl_linear.specs.Judged.{from_seq}
 use Rattle.campl_linear.specs.Holding.{Holding, as_held, goes_on, those, given_up, comes}
 use Rattle.campl_linear.specs.Channels.{held_at, Used, used, to_put, to_get, to_pick, to_split, to_fork, to_end, to_offer, two_new, none_left, joined}
-use Rattle.campl_linear.specs.Rows.{row_names, row_type, rows_offered, each_has_row, branch_names, branch_count, branches_begin, patterns_fit}
+use Rattle.campl_linear.specs.Rows.{some_row, row_names, row_type, rows_offered, each_has_row, branch_names, branch_count, branches_begin, patterns_fit}
 use Rattle.campl_linear.specs.Plugs.{plug_stands, share_of}
 use Rattle.campl_linear.specs.Calls.{values_fit, as_many, handed, called}
 use Rattle.campl_linear.specs.Bodies.{judge, judge_rows, judge_branches, judge_cases, judge_parts}
 use Rattle.campl_peel.specs.Trees.{PlugsAreTrees, RowsHaveTrees, BranchesHaveTrees, CasesHaveTrees, PartsHaveTrees}
 use Rattle.campl_linear.proofs.Turns.{in-turn, is-seq}
 use Rattle.campl_linear.proofs.Lists.{held-those, held-given-up, held-goes-on, held-comes, none-left, only-behind, all_given_up, all-only}
-use Rattle.campl_linear.proofs.Named.{each-has-row, count-race}
+use Rattle.campl_linear.proofs.Named.{some-row, each-has-row, count-race}
 use Rattle.campl_linear.proofs.Headings.{IsPlain}
 use Rattle.campl_linear.proofs.Uses.{held-is, used-so, puts, gets, picks, splits, forks, ends, offers, TwoNew, two-are-new, are-new, is-joined}
 use Rattle.campl_linear.proofs.Rowed.{type-found, rows-distinct, counted-so, AllReceive, branches-receive}
 use Rattle.campl_linear.proofs.Called.{values-typed, many, behind-all, Handed, handed-so, turned-apart}
 use Rattle.campl_linear.proofs.Headers.{LinksAreNew}
 use Rattle.campl_linear.proofs.Plugged.{plug-so, stands-new, shares}
+use Rattle.campl_types.proofs.Among.{distinct-append}
+use Rattle.campl_types.specs.Values.{PartsAreKnown}
 
 -- what is held behind two new names
 pub two-held : (x y z : Name) (c d : Channel) (held : Holding) → TwoNew y z (given_up x held)
@@ -172,14 +173,15 @@ module _ (w : World) (known : PartsAreKnown w) (plain : (x : Name) (p : ProcessD
         let n = subst (λ g. HoldsOnly [] g) (held-given-up x.name held) (none-left at (given_up x.name held) f j.2) in
         ((u.side, u.held_type, h.is_held, ends (deed w u.side u.held_type) u.may h.allows, only-behind x.name [] (as_held held) n), tt)
     judge-sound vs held (b.Hcase at x rows) f i =
-        let j = in-turn (used w at x to_offer held) (λ u. and_then (rows_offered x.name u [] rows) (λ z1. and_then (each_has_row at u.may (row_names rows)) (λ z2. judge_rows w vs held x.name u rows))) f i in
+        let j = in-turn (used w at x to_offer held) (λ u. and_then (rows_offered x.name u [] rows) (λ z1. and_then (each_has_row at u.may (row_names rows)) (λ z2. and_then (some_row at x.name u rows) (λ z3. judge_rows w vs held x.name u rows)))) f i in
         let u = j.0 in
-        let k = in-turn (rows_offered x.name u [] rows) (λ z1. and_then (each_has_row at u.may (row_names rows)) (λ z2. judge_rows w vs held x.name u rows)) f j.2 in
-        let l = in-turn (each_has_row at u.may (row_names rows)) (λ z2. judge_rows w vs held x.name u rows) f k.2 in
+        let k = in-turn (rows_offered x.name u [] rows) (λ z1. and_then (each_has_row at u.may (row_names rows)) (λ z2. and_then (some_row at x.name u rows) (λ z3. judge_rows w vs held x.name u rows))) f j.2 in
+        let l = in-turn (each_has_row at u.may (row_names rows)) (λ z2. and_then (some_row at x.name u rows) (λ z3. judge_rows w vs held x.name u rows)) f k.2 in
         let h = used-so w at x to_offer held u j.1 in
         let d = rows-distinct x.name u [] rows k.0 k.1 in
-        let r = rows-sound vs held x.name u h.is_held rows f l.2 in
-        ((u.side, u.held_type, u.may, h.is_held, offers (deed w u.side u.held_type) u.may h.allows, each-has-row at rows u.may l.0 d.distinct l.1, r.0), r.1)
+        let m = in-turn (some_row at x.name u rows) (λ z3. judge_rows w vs held x.name u rows) f l.2 in
+        let r = rows-sound vs held x.name u h.is_held rows f m.2 in
+        ((u.side, u.held_type, u.may, h.is_held, offers (deed w u.side u.held_type) u.may h.allows, each-has-row at rows u.may l.0 d.distinct l.1, r.0, some-row at x.name u rows m.0 m.1), r.1)
     judge-sound vs held (b.Fork at x y left z right) f i =
         let others = given_up x.name held in
         let j = in-turn (used w at x to_fork held) (λ u. and_then (two_new y z (given_up x.name held)) (λ q. and_then (judge w vs (comes y.name (On u.side u.may.0) (those (λ c. is_free c left) (given_up x.name held))) left) (λ q2. judge w vs (comes z.name (On u.side u.may.1) (those (λ c. not (is_free c left)) (given_up x.name held))) right))) f i in
@@ -193,16 +195,18 @@ module _ (w : World) (known : PartsAreKnown w) (plain : (x : Name) (p : ProcessD
         let e = kept-held x.name y.name (On u.side u.may.0) (λ c. is_free c left) held n.first in
         let g = kept-held x.name z.name (On u.side u.may.1) (λ c. not (is_free c left)) held n.second in (
           (
-            u.side,
-            u.held_type,
-            u.may.0,
-            u.may.1,
             λ c. is_free c left,
-            h.is_held,
-            forks (deed w u.side u.held_type) u.may h.allows,
-            are-new x.name y z held n,
-            subst (λ q. IsWellFormed w vs q left) e r.0,
-            subst (λ q. IsWellFormed w vs q right) g s.0,
+            (
+              u.side,
+              u.held_type,
+              u.may.0,
+              u.may.1,
+              h.is_held,
+              forks (deed w u.side u.held_type) u.may h.allows,
+              are-new x.name y z held n,
+              subst (λ q. IsWellFormed w vs q left) e r.0,
+              subst (λ q. IsWellFormed w vs q right) g s.0,
+            ),
           ),
           (r.1, s.1),
         )

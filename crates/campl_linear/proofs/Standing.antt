@@ -8,9 +8,8 @@ use Rattle.campl_types.specs.Names.{Name, same_name, is_among, are_distinct}
 use Rattle.campl_types.specs.World.{names_of}
 use Rattle.campl_types.specs.Headers.{times, times_in, times_out, one_if, link_names, count}
 use Rattle.campl_types.proofs.Names.{same-is, same-itself}
-use Rattle.campl_seqcheck.proofs.AgreesNames.{and-first, and-second, or-first, or-second}
 use Rattle.campl_peel.specs.Numbered.{one_up, number_of, outputs_in, inputs_in, joined_parts}
-use Rattle.campl_linear.proofs.Turns.{or-none, not-true}
+use Rattle.campl_types.proofs.Truth.{and-first, and-second, or-first, or-second, or-none, not-true}
 
 pub among-some : (n : Name) (xs : List Ident) → is_among n (names_of xs) ≡ true → 1 ≤ times n xs
 among-some n [] i = absurd (true≢false (sym i))

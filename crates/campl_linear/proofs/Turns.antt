@@ -2,34 +2,21 @@
 use Rattle.std.proofs.Common.{◌≡◌, ◌∙◌, ◌⊎◌, inl, inr, refl, sym, ℕ, Bool, true, false, not, ◌&&◌, ◌||◌, nat_le, true≢false}
 use Rattle.std.proofs.lemmas.Bool.{le-leb, leb-true}
 use Rattle.campl_seqcheck.specs.Judged as seq
-use Rattle.campl_seqcheck.specs.Judged.{Fine}
-use Rattle.campl_linear.specs.Judged.{Judged, Is, Fails, and_then, from_seq}
+use Rattle.campl_seqcheck.specs.Judged.{Fine, Judged, Is, Fails, and_then}
+use Rattle.campl_linear.specs.Judged.{from_seq}
 use Rattle.campl_linear.specs.Rows.{is_between}
 use Rattle.campl_types.specs.Linear.{between}
+use Rattle.campl_linear.specs.Faults.{LinFault}
+use Rattle.campl_seqcheck.specs.declared.fault.SeqFault.{SeqFault}
 
 -- the first of two was found, and then the second
-pub in-turn : {A B : Type 0} → (first : Judged A) (next : A → Judged B) (y : B) → and_then first next ≡ Is y → (x : A) × (first ≡ Is x) × (next x ≡ Is y)
+pub in-turn : {A B : Type 0} → (first : Judged LinFault A) (next : A → Judged LinFault B) (y : B) → and_then first next ≡ Is y → (x : A) × (first ≡ Is x) × (next x ≡ Is y)
 in-turn (Is x) next y i = (x, refl, i)
 in-turn (Fails fault) next y i = absurd (cc i)
 
-pub is-seq : {A : Type 0} → (j : seq.Judged A) (y : A) → from_seq j ≡ Is y → j ≡ seq.Is y
+pub is-seq : {A : Type 0} → (j : seq.Judged SeqFault A) (y : A) → from_seq j ≡ Is y → j ≡ seq.Is y
 is-seq (seq.Is x) y i = let e : x ≡ y = cc i in λ k. seq.Is (e k)
 is-seq (seq.Fails fault) y i = absurd (cc i)
-
-pub split : (b : Bool) → (b ≡ true) ⊎ (b ≡ false)
-split true = inl refl
-split false = inr refl
-
-pub no-both : (b : Bool) → b ≡ true → b ≡ false → ⊥
-no-both b i j = true≢false (sym i ∙ j)
-
-pub not-true : (a : Bool) → not a ≡ true → a ≡ false
-not-true true i = absurd (no-both false i refl)
-not-true false i = refl
-
-pub or-none : (a b : Bool) → (a || b) ≡ false → (a ≡ false) × (b ≡ false)
-or-none false b i = (refl, i)
-or-none true b i = absurd (true≢false i)
 
 pub is-between : (least n most : ℕ) → is_between least n most ≡ true → between least n most
 is-between least n most i = go (nat_le least n) (nat_le n most) refl refl i

@@ -14,14 +14,13 @@ use Rattle.campl_types.specs.Polarity.{Choices, Deed, Puts, Gets, Forks, Splits,
 use Rattle.campl_types.specs.Held.{Channel, On, Held}
 use Rattle.campl_types.specs.Linear.{AreNew, AreJoined}
 use Rattle.campl_types.proofs.SameType.{chan-same, same-chan}
-use Rattle.campl_seqcheck.specs.Judged.{Fine, fine}
-use Rattle.campl_seqcheck.proofs.AgreesNames.{and-first, and-second, and-both}
+use Rattle.campl_seqcheck.specs.Judged.{Fine, fine, Is, Fails}
 use Rattle.campl_linear.specs.Faults.{LeftOver}
-use Rattle.campl_linear.specs.Judged.{Is, Fails}
 use Rattle.campl_linear.specs.Holding.{Holding, as_held, given_up}
 use Rattle.campl_linear.specs.Channels.{held_at, Used, allowed_of, used, to_put, to_get, to_pick, to_split, to_fork, to_end, to_offer, new_name, two_new, same_side, fit_together, joined}
 use Rattle.campl_linear.proofs.Turns.{in-turn}
 use Rattle.campl_linear.proofs.Lists.{held-given-up}
+use Rattle.campl_types.proofs.Truth.{and-first, and-second, and-both}
 
 pub held-is : (x : Ident) (held : Holding) (c : Channel) → held_at x held ≡ Is c → found x.name held ≡ Some c
 held-is x held c i = go (found x.name held) refl

@@ -12,19 +12,18 @@ use Rattle.campl_types.specs.SameTest.{same_chan}
 use Rattle.campl_types.specs.World.{World}
 use Rattle.campl_types.specs.Polarity.{Choices, Deed, Puts, Gets, Forks, Splits, Picks, Offers, Ends, deed}
 use Rattle.campl_types.specs.Held.{Channel, On}
-use Rattle.campl_seqcheck.specs.Judged.{Fine, fine}
-use Rattle.campl_linear.specs.Faults.{NotHeld, LeftOver, WrongAction, IdentityType}
-use Rattle.campl_linear.specs.Judged.{Judged, Is, Fails, and_then}
+use Rattle.campl_seqcheck.specs.Judged.{Fine, fine, Judged, Is, Fails, and_then}
+use Rattle.campl_linear.specs.Faults.{LinFault, NotHeld, LeftOver, WrongAction, IdentityType}
 use Rattle.campl_linear.specs.Holding.{Holding}
 
 -- Held (E40)
 
-abbrev pub is_held : Ident → Option Channel → Judged Channel
+abbrev pub is_held : Ident → Option Channel → Judged LinFault Channel
 is_held x None = Fails (NotHeld x.place x.name)
 is_held x (Some c) = Is c
 
 -- the channel of this name
-abbrev pub held_at : Ident → Holding → Judged Channel
+abbrev pub held_at : Ident → Holding → Judged LinFault Channel
 held_at x held = is_held x (found x.name held)
 
 -- At its own entry of the polarity table (E42)
@@ -35,15 +34,15 @@ pub record Used (A : Type 0) : Type 0 where
   pub held_type : ChanType
   pub may : A
 
-abbrev pub allowed_so : {A : Type 0} → Place → Name → Side → ChanType → Option A → Judged (Used A)
+abbrev pub allowed_so : {A : Type 0} → Place → Name → Side → ChanType → Option A → Judged LinFault (Used A)
 allowed_so at x s u None = Fails (WrongAction at x u s)
 allowed_so at x s u (Some a) = Is (record { side = s; held_type = u; may = a })
 
-abbrev pub allowed_of : {A : Type 0} → World → Place → Name → (Deed → Option A) → Channel → Judged (Used A)
+abbrev pub allowed_of : {A : Type 0} → World → Place → Name → (Deed → Option A) → Channel → Judged LinFault (Used A)
 allowed_of w at x wants (On s u) = allowed_so at x s u (wants (deed w s u))
 
 -- the channel that a command names, where its type has what the command wants
-abbrev pub used : {A : Type 0} → World → Place → Ident → (Deed → Option A) → Holding → Judged (Used A)
+abbrev pub used : {A : Type 0} → World → Place → Ident → (Deed → Option A) → Holding → Judged LinFault (Used A)
 used w at x wants held = and_then (held_at x held) (allowed_of w at x.name wants)
 
 -- what each command wants
@@ -77,18 +76,18 @@ to_offer _ = None
 
 -- New, or none left (E41)
 
-abbrev pub is_new : Ident → Option Channel → Judged Fine
+abbrev pub is_new : Ident → Option Channel → Judged LinFault Fine
 is_new y None = Is fine
 is_new y (Some c) = Fails (LeftOver y.place y.name)
 
-abbrev pub new_name : Ident → Holding → Judged Fine
+abbrev pub new_name : Ident → Holding → Judged LinFault Fine
 new_name y held = is_new y (found y.name held)
 
 -- two new names, the second not that of the first either
-abbrev pub two_new : Ident → Ident → Holding → Judged Fine
+abbrev pub two_new : Ident → Ident → Holding → Judged LinFault Fine
 two_new y z held = and_then (new_name y held) (λ _. if same_name y.name z.name then Fails (LeftOver z.place z.name) else new_name z held)
 
-abbrev pub none_left : Place → Holding → Judged Fine
+abbrev pub none_left : Place → Holding → Judged LinFault Fine
 none_left at [] = Is fine
 none_left at (e ∷ es) = Fails (LeftOver at e.0)
 
@@ -105,5 +104,5 @@ abbrev pub fit_together : Bool → Channel → Channel → Bool
 fit_together false (On s t) (On r u) = same_side r (opposite s) && same_chan t u
 fit_together true (On s t) (On r u) = same_side r s && same_chan t (Neg u)
 
-abbrev pub joined : Place → Name → Bool → Name → Channel → Channel → Judged Fine
+abbrev pub joined : Place → Name → Bool → Name → Channel → Channel → Judged LinFault Fine
 joined at x negated y c d = if not (same_name x y) && fit_together negated c d then Is fine else Fails (IdentityType at)

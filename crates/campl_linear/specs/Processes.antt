@@ -13,12 +13,13 @@ use Rattle.campl_types.specs.World.{World}
 use Rattle.campl_types.specs.Held.{On}
 use Rattle.campl_types.specs.Linear.{row_variables}
 use Rattle.campl_seqcheck.specs.declared.fault.SeqFault.TheVariants.{NameTwiceInPattern}
-use Rattle.campl_seqcheck.specs.Judged.{Fine, fine, counted}
-use Rattle.campl_linear.specs.Faults.{Seq}
-use Rattle.campl_linear.specs.Judged.{Judged, Is, Fails, and_then, from_seq}
+use Rattle.campl_seqcheck.specs.Judged.{Fine, fine, Judged, Is, Fails, and_then}
+use Rattle.campl_linear.specs.Faults.{LinFault, Seq}
+use Rattle.campl_linear.specs.Judged.{from_seq}
 use Rattle.campl_linear.specs.Holding.{Holding}
 use Rattle.campl_linear.specs.Calls.{as_many}
 use Rattle.campl_linear.specs.Bodies.{judge}
+use Rattle.campl_seqcheck.specs.Fitting.{counted}
 
 -- the variables that are bound, with their places
 abbrev pub variables_bound : List Binder → List Ident
@@ -31,7 +32,7 @@ abbrev pub idents_of : ProcessRow → List Ident
 idents_of row = variables_bound row.variables ++ row.inputs ++ row.outputs
 
 -- no name stands a second time (E34)
-abbrev pub names_differ : (before : List Name) → List Ident → Judged Fine
+abbrev pub names_differ : (before : List Name) → List Ident → Judged LinFault Fine
 names_differ before [] = Is fine
 names_differ before (x ∷ xs) =
     if is_among x.name before then Fails (Seq (NameTwiceInPattern x.place x.name)) else names_differ (x.name ∷ before) xs
@@ -45,7 +46,7 @@ entering s (x ∷ xs) (t ∷ ts) = (x.name, On s t) ∷ entering s xs ts
 abbrev pub row_holding : ProcessDecl → Holding
 row_holding p = entering Input p.row.inputs p.inputs ++ entering Output p.row.outputs p.outputs
 
-abbrev pub judge_process : World → ProcessDecl → Judged Fine
+abbrev pub judge_process : World → ProcessDecl → Judged LinFault Fine
 judge_process w p =
     and_then (names_differ [] (idents_of p.row)) (λ _.
     and_then (from_seq (counted p.row.place (length p.row.variables) (length p.parameters))) (λ _.
@@ -53,7 +54,7 @@ judge_process w p =
     and_then (as_many p.row.place (length p.row.outputs) (length p.outputs)) (λ _.
     judge w (row_variables p.row.variables p.parameters) (row_holding p) p.row.body))))
 
-abbrev judge_decl : World → Decl → Judged Fine
+abbrev judge_decl : World → Decl → Judged LinFault Fine
 judge_decl w (Process p) = judge_process w p
 judge_decl w (Data d) = Is fine
 judge_decl w (Protocol d) = Is fine
@@ -61,6 +62,6 @@ judge_decl w (Coprotocol d) = Is fine
 judge_decl w (Function f) = Is fine
 
 -- the processes among declarations
-abbrev pub judge_processes : World → List Decl → Judged Fine
+abbrev pub judge_processes : World → List Decl → Judged LinFault Fine
 judge_processes w [] = Is fine
 judge_processes w (d ∷ ds) = and_then (judge_decl w d) (λ _. judge_processes w ds)

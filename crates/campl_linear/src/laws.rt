@@ -8,7 +8,6 @@ ghost use Rattle.campl_tree.specs.declared.place.Place.{Place};
 ghost use Rattle.campl_tree.specs.Plain.Decl.{Program, ProtocolDecl, CoprotocolDecl};
 ghost use Rattle.campl_tree.specs.Plain.Process.{Body, Link, Parts};
 ghost use Rattle.campl_types.specs.Fits.{Vars};
-ghost use Rattle.campl_types.specs.Free.{all_have_constructors};
 ghost use Rattle.campl_types.specs.Headers.{links_in, Divide, count};
 ghost use Rattle.campl_types.specs.Linear.{IsWellFormed, ProcessesAreTyped};
 ghost use Rattle.campl_types.specs.WellDeclared.{IsWellDeclared};
@@ -19,9 +18,8 @@ ghost use Rattle.campl_tree.specs.Plain.SeqType.{SeqType};
 ghost use Rattle.campl_linear.specs.Remains.{remains};
 ghost use Rattle.campl_types.specs.Typed.{IsTyped};
 ghost use Rattle.campl_seqcheck.specs.Judged as seq;
-ghost use Rattle.campl_seqcheck.specs.Judged.{fine};
+ghost use Rattle.campl_seqcheck.specs.Judged.{fine, Is};
 ghost use Rattle.campl_seqcheck.specs.Functions.{judge_functions};
-ghost use Rattle.campl_linear.specs.Judged.{Is};
 ghost use Rattle.campl_linear.specs.Holding.{Holding, as_held};
 ghost use Rattle.campl_peel.specs.Numbered.{joined_parts, PlugIsTree};
 ghost use Rattle.campl_linear.specs.Plugs.{links_are_new, headers_stand, links_are_used, all_are_used, tree_fault, parts_form_tree};
@@ -30,11 +28,11 @@ ghost use Rattle.campl_linear.specs.Processes.{judge_processes};
 ghost use Rattle.campl_peel.specs.Trees.{PlugsAreTrees, ProcessesHaveTrees};
 
 /// In a well declared source a body that is judged to have no fault is well formed with what it holds, and the
-/// parts of each of its plugs form a tree; where each protocol has a constructor, each such body is judged so.
+/// parts of each of its plugs form a tree; and each such body is judged so.
 pub fn law_bodies_are_well_formed()
     ensures sound { (source : Program) → IsWellDeclared source → (vs : Vars) (held : Holding) (body : Body) → judge (world_of source) vs held body ≡ Is fine
         → IsWellFormed (world_of source) vs (as_held held) body × PlugsAreTrees body }
-    ensures both { (source : Program) → IsWellDeclared source → IsTrue (all_have_constructors (world_of source)) → (vs : Vars) (held : Holding) (body : Body)
+    ensures both { (source : Program) → IsWellDeclared source → (vs : Vars) (held : Holding) (body : Body)
         → judge (world_of source) vs held body ≡ Is fine ↔ (IsWellFormed (world_of source) vs (as_held held) body × PlugsAreTrees body) }
 {}
 
@@ -43,7 +41,7 @@ pub fn law_bodies_are_well_formed()
 pub fn law_processes_are_typed()
     ensures sound { (source : Program) → IsWellDeclared source → judge_processes (world_of source) source ≡ Is fine
         → ProcessesAreTyped (world_of source) source × ProcessesHaveTrees source }
-    ensures both { (source : Program) → IsWellDeclared source → IsTrue (all_have_constructors (world_of source))
+    ensures both { (source : Program) → IsWellDeclared source
         → judge_processes (world_of source) source ≡ Is fine ↔ (ProcessesAreTyped (world_of source) source × ProcessesHaveTrees source) }
 {}
 
@@ -64,8 +62,8 @@ pub fn law_plugs_tell_their_fault()
 /// A source has no fault of its names, functions and processes exactly where it is typed and the parts of each
 /// plug form a tree.
 pub fn law_sources_are_typed()
-    ensures { (source : Program) → IsTrue (all_have_constructors (world_of source))
-        → (IsWellDeclared source × (judge_functions (world_of source) source ≡ seq.Is fine) × (judge_processes (world_of source) source ≡ Is fine)) ↔ (IsTyped source × ProcessesHaveTrees source) }
+    ensures { (source : Program)
+        → (IsWellDeclared source × (judge_functions (world_of source) source ≡ Is fine) × (judge_processes (world_of source) source ≡ Is fine)) ↔ (IsTyped source × ProcessesHaveTrees source) }
 {}
 
 /// In a well declared source a constructor is among the choices of a protocol or coprotocol exactly where it is

@@ -276,7 +276,7 @@ module _ (w : World) (good : IsSoundWorld w) (protocols : ProtocolsAreKnown w) (
       (pick-fits w s u cs _ d (λ n y t at.
       let (body, picked) = one-row w n y t rows (choice-number w protocols coprotocols cs (choices-of w s u cs (inr d)) n y t at) (each-one rows cs n y t once at) in
       (_, ap (option_map _) picked))))
-  body-answers i (b.Fork at x y left z right) (s, u, t, v, keep, hx, d, new, one, two) trees =
+  body-answers i (b.Fork at x y left z right) (keep, (s, u, t, v, hx, d, new, one, two)) trees =
       let (e, fx, ce) = held-at channel r.ends x.name (On s u) hx in
       looked-up _ _ k.Fork (found x.name r.ends) e _ fx tt
   body-answers i (b.Plug at parts_links parts) h trees =
