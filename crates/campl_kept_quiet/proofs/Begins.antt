@@ -15,13 +15,13 @@ use Rattle.campl_machine.specs.Graph.{Graph, Leads, Mutual, NoCycle}
 use Rattle.campl_machine.specs.Progress.{Within}
 use Rattle.campl_machine.proofs.Bridges.{Bridge, no_cycle}
 use Rattle.campl_types.specs.declared.fault.NameFault.{NameFault}
-use Rattle.campl_types.specs.Names.{Name, found, are_distinct}
+use Rattle.campl_types.specs.Names.{Name, found, are_distinct, is_empty}
 use Rattle.campl_types.specs.SameType.{nowhere, IsSameChan}
 use Rattle.campl_types.specs.World.{World, world_of, names_of, process_named}
 use Rattle.campl_types.specs.Patterns.{bound_by_all}
 use Rattle.campl_types.specs.Known.{each, in_decl}
 use Rattle.campl_types.specs.Twice.{twice_faults}
-use Rattle.campl_types.specs.Run.{is_type_named, all, is_empty, has_services_alone, run_faults, service, services_of}
+use Rattle.campl_types.specs.Run.{is_type_named, all, has_services_alone, run_faults, service, services_of}
 use Rattle.campl_types.specs.Views.{turned}
 use Rattle.campl_types.specs.Held.{Channel, On, nothing_held}
 use Rattle.campl_types.specs.Linear.{IsWellFormed, ProcessIsTyped, row_channels, row_variables}

@@ -1,11 +1,9 @@
 -- A source that is judged to have no fault is accepted.
-use Rattle.std.proofs.Common.{◌≡◌, IsTrue}
+use Rattle.std.proofs.Common.{◌≡◌}
 use Rattle.campl_tree.specs.Plain.Decl.{Program}
 use Rattle.campl_types.specs.World.{world_of}
-use Rattle.campl_types.specs.Free.{all_have_constructors}
 use Rattle.campl_types.specs.Typed.{IsTyped}
 use Rattle.campl_types.specs.WellDeclared.{IsWellDeclared}
-use Rattle.campl_seqcheck.specs.Judged as seq
 use Rattle.campl_seqcheck.specs.Judged.{fine, Is}
 use Rattle.campl_seqcheck.specs.Functions.{judge_functions}
 use Rattle.campl_peel.specs.Trees.{ProcessesHaveTrees}
@@ -15,12 +13,12 @@ use Rattle.campl_meaning.specs.Lawful.{IsAccepted}
 use Rattle.campl_kept_quiet.proofs.Processes.{accepted-by}
 use Rattle.campl_laws.proofs.FoundOnce.{all-have-trees}
 
-pub passed : (source : Program) → IsTrue (all_have_constructors (world_of source)) → IsWellDeclared source → judge_functions (world_of source) source ≡ seq.Is fine
+pub passed : (source : Program) → IsWellDeclared source → judge_functions (world_of source) source ≡ Is fine
     → judge_processes (world_of source) source ≡ Is fine → IsAccepted source
-passed source some declared functions processes =
-    let h : IsTyped source × ProcessesHaveTrees source = (sources-agree source some).0 (declared, functions, processes) in
-    accepted-by source h.0 some h.1
+passed source declared functions processes =
+    let h : IsTyped source × ProcessesHaveTrees source = (sources-agree source).0 (declared, functions, processes) in
+    accepted-by source h.0 h.1
 
 -- and one that is accepted is judged so
-pub accepted-passes : (source : Program) → IsAccepted source → IsWellDeclared source × (judge_functions (world_of source) source ≡ seq.Is fine) × (judge_processes (world_of source) source ≡ Is fine)
-accepted-passes source a = (sources-agree source a.constructors).1 (a.typed, all-have-trees source a.typed.declared a.trees)
+pub accepted-passes : (source : Program) → IsAccepted source → IsWellDeclared source × (judge_functions (world_of source) source ≡ Is fine) × (judge_processes (world_of source) source ≡ Is fine)
+accepted-passes source a = (sources-agree source).1 (a.typed, all-have-trees source a.typed.declared a.trees)

@@ -9,10 +9,8 @@ ghost use Rattle.campl_tree.specs.Plain.Decl.{Program};
 ghost use Rattle.campl_tree.specs.Plain.Expr.{Expr};
 ghost use Rattle.campl_tree.specs.Plain.SeqType.{SeqType};
 ghost use Rattle.campl_seqcheck.specs.Functions.{judge_functions};
-ghost use Rattle.campl_seqcheck.specs.Judged as seq;
 ghost use Rattle.campl_seqcheck.specs.Judged.{fine, Is};
 ghost use Rattle.campl_types.specs.Fits.{Vars};
-ghost use Rattle.campl_types.specs.Free.{all_have_constructors};
 ghost use Rattle.campl_types.specs.WellDeclared.{IsWellDeclared};
 ghost use Rattle.campl_linear.specs.Processes.{judge_processes};
 ghost use Rattle.campl_meaning.specs.Journals.{Entry, IsRunFromStart, steps_of};
@@ -36,10 +34,10 @@ ghost use Rattle.campl_evaluation.specs.Evaluation.{value_of};
 ghost use Rattle.campl_evaluation.specs.Typed.{AreBound, Fine};
 ghost use Rattle.campl_types.specs.Values.{IsValue};
 
-/// Where each protocol has a constructor, a source is accepted exactly where its names, functions and processes are judged to have no fault.
+/// A source is accepted exactly where its names, functions and processes are judged to have no fault.
 pub fn law_accepted()
-    ensures { (source : Program) → IsTrue (all_have_constructors (world_of source))
-        → (IsWellDeclared source × (judge_functions (world_of source) source ≡ seq.Is fine) × (judge_processes (world_of source) source ≡ Is fine)) ↔ IsAccepted source }
+    ensures { (source : Program)
+        → (IsWellDeclared source × (judge_functions (world_of source) source ≡ Is fine) × (judge_processes (world_of source) source ≡ Is fine)) ↔ IsAccepted source }
 {}
 
 /// The start of an accepted source with any scripts is lawful.
