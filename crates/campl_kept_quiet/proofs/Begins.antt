@@ -31,6 +31,7 @@ use Rattle.campl_service.specs.declared.phase.Phase.TheVariants as phase
 use Rattle.campl_service.specs.Scripts.{Lines}
 use Rattle.campl_evaluation.specs.Typed.{AreBound}
 use Rattle.campl_peel.specs.Terms.{Doing, held_ends}
+use Rattle.campl_peel.proofs.Found.{found-trees}
 use Rattle.campl_meaning.specs.States.{Message, EndPair, Ends, Running, Attending, State, Runs, Serves}
 use Rattle.campl_meaning.specs.Reductions.{Configuration}
 use Rattle.campl_meaning.specs.Start.{half, near, far, wires, holding, kind_at, attending, running, start}
@@ -402,7 +403,7 @@ module _ (source : Program) (accepted : IsAccepted source) (q : ProcessDecl) (q-
       record {
         vars = row_variables q.row.variables q.parameters;
         bound = subst (λ z. AreBound w [] [] z) (sym (no-variables q.row.variables q.parameters services.0)) tt;
-        term = (subst (λ z. IsWellFormed w (row_variables q.row.variables q.parameters) z q.row.body) channels-same well, accepted.trees (codes "run") q q-is);
+        term = (subst (λ z. IsWellFormed w (row_variables q.row.variables q.parameters) z q.row.body) channels-same well, found-trees source accepted.trees (codes "run") q q-is);
       }
 
   in-phase : (m : ℕ) (x : ServiceName) (lines : Lines) → Wired 0 xs m x → IsInPhase channel (attend m x lines)

@@ -22,6 +22,7 @@ use Rattle.campl_evaluation.proofs.Declared.{typed-world}
 use Rattle.campl_evaluation.proofs.Sources.{arguments-fine}
 use Rattle.campl_peel.specs.Trees.{PlugsAreTrees}
 use Rattle.campl_peel.specs.Terms.{Doing, held_ends}
+use Rattle.campl_peel.proofs.Found.{found-trees}
 use Rattle.campl_meaning.specs.States.{Ends, Running, Runs}
 use Rattle.campl_meaning.specs.Bodies.{handed, both_ends, bind_all}
 use Rattle.campl_meaning.specs.Reductions.{Configuration}
@@ -147,5 +148,5 @@ keeps-call at x args inputs outputs source c d p r i l is t does =
           let (are, names, fit) = handing source c p r l is f inputs outputs es both
           (subst (λ (z : ProcessDecl). AreHanded (held_ends l.channel r.ends) Input inputs z.inputs) same ins)
           (subst (λ (z : ProcessDecl). AreHanded (held_ends l.channel r.ends) Output outputs z.outputs) same outs) in
-          subst (Lawful source) (sym g) (called source c p r l is f inputs outputs es us (process-typed source l.accepted.typed x f f-named) (l.accepted.trees x f f-named) values distinct only are names fit)
+          subst (Lawful source) (sym g) (called source c p r l is f inputs outputs es us (process-typed source l.accepted.typed x f f-named) (found-trees source l.accepted.trees x f f-named) values distinct only are names fit)
     ]

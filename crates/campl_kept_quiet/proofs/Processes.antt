@@ -31,20 +31,3 @@ all-bound w (x ∷ xs) (t ∷ ts) (v ∷ vs) (h, k) =
 all-bound w (x ∷ xs) [] (v ∷ vs) h = absurd h
 all-bound w (x ∷ xs) (t ∷ ts) [] h = absurd h
 
--- where the plugs of all declared processes are trees, those of a process that is named are
-abbrev TreesOf : LowerEntry → Type 0
-TreesOf (AFunction f) = Unit {0}
-TreesOf (AProcess p) = PlugsAreTrees p.row.body
-
-each-trees : (ds : List Decl) → ProcessesHaveTrees ds → OfEach TreesOf ds
-each-trees [] h = tt
-each-trees (Function f ∷ ds) (h, k) = (tt, each-trees ds k)
-each-trees (Process p ∷ ds) (h, k) = (h, each-trees ds k)
-each-trees (Data d ∷ ds) (h, k) = (tt, each-trees ds k)
-each-trees (Protocol d ∷ ds) (h, k) = (tt, each-trees ds k)
-each-trees (Coprotocol d ∷ ds) (h, k) = (tt, each-trees ds k)
-
--- a source is accepted where it is typed, and plugs are trees
-pub accepted-by : (source : Program) → IsTyped source → ProcessesHaveTrees source → IsAccepted source
-accepted-by source typed trees =
-    record { typed = typed; trees = λ x p i. of-process TreesOf (world_of source) x p (tt, (tt, each-trees source trees)) i }

@@ -23,7 +23,7 @@ use Rattle.campl_kept_messages.specs.Passing.{PassesLetter}
 use Rattle.campl_kept_messages.proofs.Kept.{letters-kept, services-kept}
 use Rattle.campl_kept_identities.proofs.Identities.{link-kept}
 use Rattle.campl_kept_births.proofs.Goes.{peel-goes, split-goes, fork-goes}
-use Rattle.campl_laws.specs.Reached.{IsReached}
+use Rattle.campl_laws.specs.Reached.{IsReached, IsMet}
 
 -- what a node that is there wants, and can do, is a reduction
 pub goes-of : (w : World) (c d : Configuration) (who : Who) (s : State) (i : ℕ) → c.nodes who ≡ Some s → Does c who (act_of w who s i) d → Goes w c who d
@@ -72,3 +72,6 @@ run-lawful source (suc n) c d l (who, m, g, run) = run-lawful source n m d ((all
 
 pub reached-lawful : (source : Program) (scripts : List Lines) (c : Configuration) → IsAccepted source → IsReached source scripts c → Lawful source c
 reached-lawful source scripts c accepted (n, run) = run-lawful source n (start (world_of source) scripts) c ((all-kept source).begins scripts accepted) run
+
+pub met-lawful : (source : Program) (c : Configuration) → IsMet source c → Lawful source c
+met-lawful source c (accepted, (scripts, reached)) = reached-lawful source scripts c accepted reached

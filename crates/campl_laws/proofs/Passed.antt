@@ -10,15 +10,13 @@ use Rattle.campl_peel.specs.Trees.{ProcessesHaveTrees}
 use Rattle.campl_linear.specs.Processes.{judge_processes}
 use Rattle.campl_linear.proofs.Processed.{sources-agree}
 use Rattle.campl_meaning.specs.Lawful.{IsAccepted}
-use Rattle.campl_kept_quiet.proofs.Processes.{accepted-by}
-use Rattle.campl_laws.proofs.FoundOnce.{all-have-trees}
 
 pub passed : (source : Program) → IsWellDeclared source → judge_functions (world_of source) source ≡ Is fine
     → judge_processes (world_of source) source ≡ Is fine → IsAccepted source
 passed source declared functions processes =
     let h : IsTyped source × ProcessesHaveTrees source = (sources-agree source).0 (declared, functions, processes) in
-    accepted-by source h.0 h.1
+    record { typed = h.0; trees = h.1 }
 
 -- and one that is accepted is judged so
 pub accepted-passes : (source : Program) → IsAccepted source → IsWellDeclared source × (judge_functions (world_of source) source ≡ Is fine) × (judge_processes (world_of source) source ≡ Is fine)
-accepted-passes source a = (sources-agree source).1 (a.typed, all-have-trees source a.typed.declared a.trees)
+accepted-passes source a = (sources-agree source).1 (a.typed, a.trees)

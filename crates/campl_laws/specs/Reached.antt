@@ -8,10 +8,20 @@ use Rattle.campl_meaning.specs.Reductions.{Configuration}
 use Rattle.campl_meaning.specs.Start.{start}
 use Rattle.campl_meaning.specs.Ends.{Ending, OutOfSteps, IsEnd}
 use Rattle.campl_meaning.specs.Kept.{Goes}
+use Rattle.campl_meaning.specs.Lawful.{IsAccepted}
+use Rattle.campl_meaning.specs.Races.{WorldHasNoRace}
 
 -- some reductions lead from the start to c, in any order, by any branches of races
 abbrev pub IsReached : Program → List Lines → Configuration → Type 0
 IsReached source scripts c = Reaches (Goes (world_of source)) (start (world_of source) scripts) c
+
+-- in an accepted source, with some scripts
+abbrev pub IsMet : Program → Configuration → Type 0
+IsMet source c = IsAccepted source × ((scripts : List Lines) × IsReached source scripts c)
+
+-- an accepted source of which no declared process has a race
+abbrev pub IsRaceless : Program → Type 0
+IsRaceless source = IsAccepted source × WorldHasNoRace (world_of source)
 
 -- n reductions lead there, no more is possible, and this is how the run ends
 pub record IsAnswer (source : Program) (scripts : List Lines) (n : ℕ) (ending : Ending) (c : Configuration) : Type 0 where

@@ -4,13 +4,13 @@ use Rattle.campl_tree.specs.declared.service.Side.{Side}
 use Rattle.campl_tree.specs.declared.service.Side.TheVariants.{Input, Output}
 use Rattle.campl_tree.specs.Plain.SeqType as s
 use Rattle.campl_tree.specs.Plain.ChanType.{ChanType, Put, Get, TopBot, Named}
-use Rattle.campl_tree.specs.Plain.Decl.{Program, ProcessDecl}
+use Rattle.campl_tree.specs.Plain.Decl.{Program}
 use Rattle.campl_machine.specs.Names.{Path, End, Who, Process, Service}
 use Rattle.campl_machine.specs.Progress.{Within}
 use Rattle.campl_types.specs.Names.{Name}
 use Rattle.campl_types.specs.SameType.{nowhere, IsSameChan}
 use Rattle.campl_types.specs.Prelude.{letters}
-use Rattle.campl_types.specs.World.{World, world_of, process_named}
+use Rattle.campl_types.specs.World.{World, world_of}
 use Rattle.campl_types.specs.Polarity.{Splits}
 use Rattle.campl_types.specs.Views.{View, turned, deed_of, side_of}
 use Rattle.campl_types.specs.Fits.{Vars}
@@ -21,7 +21,7 @@ use Rattle.campl_service.specs.declared.phase.ServiceKind.TheVariants.{Console, 
 use Rattle.campl_service.specs.declared.phase.Phase.{Phase}
 use Rattle.campl_service.specs.declared.phase.Phase.TheVariants as phase
 use Rattle.campl_evaluation.specs.Typed.{AreBound}
-use Rattle.campl_peel.specs.Trees.{PlugsAreTrees}
+use Rattle.campl_peel.specs.Trees.{ProcessesHaveTrees}
 use Rattle.campl_peel.specs.Terms.{TermIsWellFormed, held_ends}
 use Rattle.campl_meaning.specs.States.{Message, EndPair, Running, Attending, State, Runs, Serves}
 use Rattle.campl_meaning.specs.Reductions.{Configuration}
@@ -33,7 +33,7 @@ use Rattle.campl_meaning.specs.Apart.{Place, Gone, IsHeldBy, IsJoined, IsApart}
 -- the source is typed, and the parts of each plug are a tree
 pub record IsAccepted (source : Program) : Type 0 where
   pub typed : IsTyped source
-  pub trees : (x : Name) (p : ProcessDecl) → process_named (world_of source) x ≡ Some p → PlugsAreTrees p.row.body
+  pub trees : ProcessesHaveTrees source
 
 -- the side and type of each end, or that nothing more comes
 abbrev pub Channels : Type 0

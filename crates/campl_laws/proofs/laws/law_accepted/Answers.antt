@@ -2,4 +2,4 @@ use Rattle.campl_laws.proofs.Passed.{passed, accepted-passes}
 use Rattle.campl_laws.proofs.laws.law_accepted.Goals as goal
 
 pub returns : goal.returns
-returns k source some = ((λ h. passed source some h.0 h.1 h.2), accepted-passes source)
+returns k source = ((λ h. passed source h.0 h.1 h.2), accepted-passes source)
