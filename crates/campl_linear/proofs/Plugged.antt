@@ -21,12 +21,12 @@ use Rattle.campl_types.proofs.Names.{same-is}
 use Rattle.campl_seqcheck.specs.Judged.{Fine, fine, Is, and_then}
 use Rattle.campl_linear.specs.Holding.{Holding, as_held, those}
 use Rattle.campl_linear.specs.Rows.{is_between}
-use Rattle.campl_peel.specs.FirstFault.{fault_of}
+use Rattle.campl_plug.specs.FirstFault.{fault_of}
 use Rattle.campl_peel.specs.Numbered.{part_at, joined_parts, outputs_in, inputs_in, PlugIsTree}
 use Rattle.campl_linear.specs.Plugs.{part_count, links_are_new, headers_stand, links_are_used, all_are_used, in_cycle, is_apart, tree_fault, parts_form_tree, plug_stands, is_in, ends_of, share_of}
 use Rattle.campl_linear.proofs.Turns.{in-turn, is-between, between-is}
 use Rattle.campl_linear.proofs.Lists.{held-those, found-append}
-use Rattle.campl_peel.proofs.Faulted.{tree-exactly, fault-exactly}
+use Rattle.campl_plug.proofs.Faulted.{tree-exactly, fault-exactly}
 use Rattle.campl_linear.proofs.Standing.{on, on-out, on-in, joined-within}
 use Rattle.campl_linear.proofs.Headers.{link-among, headers-so, so-headers, LinksAreNew, links-new, new-links, links-used, used-links, all-used, used-all, divide-so, link-is, so-new, so-twice, so-once, so-stand}
 use Rattle.campl_types.proofs.Among.{from-nothing}

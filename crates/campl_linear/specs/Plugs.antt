@@ -18,7 +18,7 @@ use Rattle.campl_linear.specs.Faults.{LinFault, NotHeld, LeftOver, PlugUse, Plug
 use Rattle.campl_linear.specs.Holding.{Holding, those}
 use Rattle.campl_linear.specs.Channels.{new_name, same_side}
 use Rattle.campl_linear.specs.Rows.{is_between}
-use Rattle.campl_peel.specs.FirstFault.{fault_of}
+use Rattle.campl_plug.specs.FirstFault.{fault_of}
 use Rattle.campl_peel.specs.Numbered.{part_at, joined_parts}
 
 -- 1. It has 2 to 64 parts (E51).

@@ -9,11 +9,11 @@ use Rattle.campl_tree.specs.declared.place.Ident.{Ident}
 use Rattle.campl_tree.specs.Plain.ChanType.{TopBot}
 use Rattle.campl_tree.specs.Plain.Process as b
 use Rattle.campl_tree.specs.Plain.Process.{Header, Parts, no_parts, part_then}
-use Rattle.campl_peel.specs.TreeOrder.{tree_order_of}
-use Rattle.campl_peel.specs.FirstFault.{fault_of}
+use Rattle.campl_plug.specs.TreeOrder.{tree_order_of}
+use Rattle.campl_plug.specs.FirstFault.{fault_of}
 use Rattle.campl_peel.specs.Numbered.{joined_parts, last_first}
 use Rattle.campl_peel.specs.Peel.{peel_of}
-use Rattle.campl_peel.proofs.Faulted.{tree-exactly}
+use Rattle.campl_plug.proofs.Faulted.{tree-exactly}
 
 abbrev link : ℕ → ℕ → Link
 link p q = record { a = p; b = q }

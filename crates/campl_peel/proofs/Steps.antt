@@ -20,7 +20,7 @@ use Rattle.campl_types.specs.Held.{Held}
 use Rattle.campl_types.specs.Headers.{links_in, link_names, times, times_in, times_out, IsUsed, Divide, count}
 use Rattle.campl_types.specs.Linear.{IsWellFormed, PlugIsWellFormed}
 use Rattle.campl_types.proofs.Names.{same-turned}
-use Rattle.campl_peel.specs.TreeOrder.{tree_order_of}
+use Rattle.campl_plug.specs.TreeOrder.{tree_order_of}
 use Rattle.campl_peel.specs.Numbered.{part_at, add_part, picked, joined_parts, outputs_in, inputs_in, PlugIsTree, last_first}
 use Rattle.campl_peel.specs.Plugging.{stands_in, stands_among, links_to, side_in, without_link, held_by_rest, PluggingIsWellFormed}
 use Rattle.campl_peel.specs.Peel.{Peel, peel_by, peel_of, side_among, first_part, PeelKeepsTyping}
@@ -29,7 +29,7 @@ use Rattle.campl_peel.proofs.Peeling.{link-uses, child-is-well-formed, rest-is-p
 use Rattle.campl_peel.proofs.LinksLeft.{first-link, each-link, links-but, distinct-kept, one-link-kept}
 use Rattle.campl_peel.proofs.Numbers.{weight, weight-out, weight-in, weight-count, weight-all, there, names-picked, fine-picked}
 use Rattle.campl_peel.proofs.Plugged.{pairs-within, each-has-one}
-use Rattle.campl_peel.proofs.Ordered.{order-is-breadth-first}
+use Rattle.campl_plug.proofs.Ordered.{order-is-breadth-first}
 
 -- A plug of which nothing is peeled
 

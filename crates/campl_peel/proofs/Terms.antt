@@ -10,7 +10,7 @@ use Rattle.campl_types.specs.Held.{Channel, Held, with, only}
 use Rattle.campl_types.specs.Headers.{count}
 use Rattle.campl_types.proofs.Names.{same-itself, same-turned, split-names}
 use Rattle.campl_peel.specs.Numbered.{part_at, add_part, picked, last_first, joined_parts}
-use Rattle.campl_peel.specs.TreeOrder.{tree_order_of}
+use Rattle.campl_plug.specs.TreeOrder.{tree_order_of}
 use Rattle.campl_peel.specs.Plugging.{held_by_rest, PluggingIsWellFormed}
 use Rattle.campl_peel.specs.Peel.{Peel, peel_of, PeelKeepsTyping}
 use Rattle.campl_peel.specs.Trees.{PlugsAreTrees, PartsHaveTrees}

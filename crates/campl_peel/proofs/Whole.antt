@@ -21,7 +21,7 @@ use Rattle.campl_peel.specs.Plugging.{held_by_child, held_by_rest}
 use Rattle.campl_peel.specs.Peel.{Peel}
 use Rattle.campl_peel.specs.Terms.{Doing, left_behind, TermIsWellFormed, TermPeels}
 use Rattle.campl_peel.proofs.Standing.{or-neither}
-use Rattle.campl_peel.proofs.Faulted.{tree-exactly}
+use Rattle.campl_plug.proofs.Faulted.{tree-exactly}
 use Rattle.campl_peel.proofs.Terms.{term-peels}
 
 abbrev at : Place

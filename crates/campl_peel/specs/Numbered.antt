@@ -8,7 +8,7 @@ use Rattle.campl_tree.specs.Plain.Process.{Body, Header, Parts, no_parts, part_t
 use Rattle.campl_types.specs.Names.{Name, is_among}
 use Rattle.campl_types.specs.World.{names_of}
 use Rattle.campl_types.specs.Headers.{count}
-use Rattle.campl_peel.specs.TreeOrder.{tree_order_of}
+use Rattle.campl_plug.specs.TreeOrder.{tree_order_of}
 
 -- the part of a number
 abbrev pub part_at : Parts → ℕ → Option (Header × Body)

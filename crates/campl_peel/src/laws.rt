@@ -1,12 +1,6 @@
 //! Laws over the definitions, functions with nothing to do, whose contracts they are.
-ghost use Rattle.std.specs.Prelude.{◌≡◌, ◌≢◌, ◌≤◌, ◌↔◌, ℕ, All, IsTrue, List, Some, None};
-ghost use Rattle.campl_plug.specs.declared.plug.Link.{Link};
-ghost use Rattle.campl_plug.specs.declared.plug.PlugFault.{PlugFault};
-ghost use Rattle.campl_plug.specs.declared.plug.PlugFault.TheVariants.{OutOfMemory};
+ghost use Rattle.std.specs.Prelude.{◌≡◌, ◌≤◌, All, IsTrue, List, Some};
 ghost use Rattle.campl_plug.specs.Links.{IsWithin};
-ghost use Rattle.campl_plug.specs.Tree.{IsTree};
-ghost use Rattle.campl_plug.specs.Order.{IsBreadthFirst};
-ghost use Rattle.campl_plug.specs.Faults.{IsFaultOf};
 ghost use Rattle.campl_tree.specs.declared.place.Place.{Place};
 ghost use Rattle.campl_tree.specs.Plain.Process as b;
 ghost use Rattle.campl_tree.specs.Plain.Process.{Body, Header, Parts, no_parts, part_then, Plug};
@@ -15,25 +9,10 @@ ghost use Rattle.campl_types.specs.Fits.{Vars};
 ghost use Rattle.campl_types.specs.Held.{Held};
 ghost use Rattle.campl_types.specs.Headers.{links_in, Divide, count};
 ghost use Rattle.campl_types.specs.Linear.{IsWellFormed};
-ghost use Rattle.campl_peel.specs.TreeOrder.{tree_order_of};
-ghost use Rattle.campl_peel.specs.FirstFault.{fault_of};
 ghost use Rattle.campl_peel.specs.Numbered.{joined_parts, part_at, last_first, PlugIsTree};
 ghost use Rattle.campl_peel.specs.Plugging.{PluggingIsWellFormed};
 ghost use Rattle.campl_peel.specs.Peel.{Peel, peel_of, first_part, PeelKeepsTyping};
 ghost use Rattle.campl_peel.specs.Terms.{Term, is_plug, TermIsWellFormed, TermPeels};
-
-/// The order that is computed is the breadth-first order.
-pub fn law_order_of_computes()
-    ensures { (k : ℕ) (links : List Link) → 1 ≤ k → All (IsWithin k) links → IsTree k links → (order : List ℕ)
-        → IsBreadthFirst k links order ↔ (order ≡ tree_order_of k links) }
-{}
-
-/// The fault that is computed is the fault of the links, and there is none exactly where they form a tree.
-pub fn law_fault_of_computes()
-    ensures tree { (k : ℕ) (links : List Link) → 1 ≤ k → All (IsWithin k) links → IsTree k links ↔ (fault_of k links ≡ None) }
-    ensures fault { (k : ℕ) (links : List Link) → 1 ≤ k → All (IsWithin k) links → (fault : PlugFault) → fault ≢ OutOfMemory
-        → IsFaultOf k links fault ↔ (fault_of k links ≡ Some fault) }
-{}
 
 /// Where headers divide the links and what is held, the links join parts of the plug.
 pub fn law_links_join_parts()

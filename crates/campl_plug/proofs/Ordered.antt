@@ -11,7 +11,7 @@ use Rattle.campl_plug.proofs.Places.{get-cases}
 use Rattle.campl_plug.proofs.Paths.{linked-parts}
 use Rattle.campl_plug.proofs.Found.{FoundBelow, found-none, found-all, found-same, found-more, any-there, any-nowhere}
 use Rattle.campl_plug.proofs.Searched.{AreSearched, searched-first, searched-more, once-length, search-is-breadth-first}
-use Rattle.campl_peel.specs.TreeOrder.{joins, is_linked, new_neighbours, searched, tree_order_of}
+use Rattle.campl_plug.specs.TreeOrder.{joins, is_linked, new_neighbours, searched, tree_order_of}
 
 both : (a b : Bool) → (a && b) ≡ true → (a ≡ true) × (b ≡ true)
 both true b e = (refl, e)

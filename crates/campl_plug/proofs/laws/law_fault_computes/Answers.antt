@@ -1,7 +1,7 @@
 use Rattle.std.proofs.lemmas.List.Elements.{recursion_from_All}
 use Rattle.campl_plug.specs.Links.{IsWithin}
-use Rattle.campl_peel.proofs.Faulted.{tree-exactly, fault-exactly}
-use Rattle.campl_peel.proofs.laws.law_fault_of_computes.Goals as goal
+use Rattle.campl_plug.proofs.Faulted.{tree-exactly, fault-exactly}
+use Rattle.campl_plug.proofs.laws.law_fault_computes.Goals as goal
 
 pub returns : goal.returns
 returns c = record {

@@ -14,7 +14,7 @@ use Rattle.campl_plug.proofs.Counts.{same-eqb, apart-eqb}
 use Rattle.campl_plug.proofs.Trees.{exactly}
 use Rattle.campl_plug.proofs.Cycles.{FreeSoFar, free-first, free-closes, free-more, free-last, least-apart, all-reached}
 use Rattle.campl_plug.proofs.OneFault.{tree-has-no-fault, one-fault}
-use Rattle.campl_peel.specs.FirstFault.{own_labels, or_else, first_apart, fault_from, fault_of}
+use Rattle.campl_plug.specs.FirstFault.{own_labels, or_else, first_apart, fault_from, fault_of}
 
 own-size : (k : ℕ) → length (own_labels k) ≡ k + 1
 own-size zero = refl

@@ -3,9 +3,9 @@ use Rattle.std.proofs.lemmas.List.Elements.{recursion_from_All}
 use Rattle.campl_plug.specs.Links.{IsWithin}
 use Rattle.campl_plug.specs.Order.{IsBreadthFirst}
 use Rattle.campl_plug.proofs.OneOrder.{one-order}
-use Rattle.campl_peel.specs.TreeOrder.{tree_order_of}
-use Rattle.campl_peel.proofs.Ordered.{order-is-breadth-first}
-use Rattle.campl_peel.proofs.laws.law_order_of_computes.Goals as goal
+use Rattle.campl_plug.specs.TreeOrder.{tree_order_of}
+use Rattle.campl_plug.proofs.Ordered.{order-is-breadth-first}
+use Rattle.campl_plug.proofs.laws.law_order_computes.Goals as goal
 
 pub returns : goal.returns
 returns c = λ k links some all tree order.
