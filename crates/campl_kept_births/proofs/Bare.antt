@@ -3,11 +3,10 @@ use Rattle.std.proofs.Common.{◌≡◌, refl, ap, ap₂, List, [], ◌∷◌, O
 use Rattle.campl_tree.specs.declared.service.Side.{Side}
 use Rattle.campl_tree.specs.declared.service.Side.TheVariants.{Input, Output}
 use Rattle.campl_tree.specs.Side.{opposite}
-use Rattle.campl_tree.specs.Plain.SeqType.{SeqType, SeqTypes, no_types, type_then}
-use Rattle.campl_tree.specs.Plain.SeqType as s
+use Rattle.campl_tree.specs.Plain.SeqType.{SeqType}
 use Rattle.campl_tree.specs.Plain.ChanType.{ChanType, Put, Get, Tensor, Par, TopBot, Neg}
 use Rattle.campl_tree.specs.Plain.ChanType as c
-use Rattle.campl_types.specs.SameType.{nowhere, bare, all_bare, bare_chan}
+use Rattle.campl_types.specs.SameType.{bare_chan}
 use Rattle.campl_types.specs.Substitution.{list_of}
 use Rattle.campl_types.specs.World.{World, TypeEntry, DataType, ProtocolType, CoprotocolType, type_named}
 use Rattle.campl_types.specs.Polarity.{Forks, Splits, deed, of_named}

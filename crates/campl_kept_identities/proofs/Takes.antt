@@ -1,14 +1,11 @@
 -- What views take: lists one after the other, and that of a view and the same from the other side only one takes.
-use Rattle.std.proofs.Common.{◌≡◌, List, [], ◌∷◌, ◌++◌, ◌⊎◌, inl, inr, refl, sym, ap, subst, ◌∙◌, Bool, true, false, Option, Some, None}
+use Rattle.std.proofs.Common.{◌≡◌, List, [], ◌∷◌, ◌++◌, ◌⊎◌, inl, inr, refl, sym, ap, subst, ◌∙◌, Bool, true, false}
 use Rattle.campl_tree.specs.declared.service.Side.{Side}
-use Rattle.campl_tree.specs.declared.service.Side.TheVariants.{Input, Output}
 use Rattle.campl_tree.specs.Side.{opposite}
-use Rattle.campl_tree.specs.Plain.SeqType.{SeqType}
-use Rattle.campl_tree.specs.Plain.ChanType.{ChanType, Put, Get, Tensor, Par, TopBot, Neg, Named}
-use Rattle.campl_types.specs.Substitution.{list_of}
+use Rattle.campl_tree.specs.Plain.ChanType.{ChanType}
 use Rattle.campl_types.specs.SameType.{bare_chan}
-use Rattle.campl_types.specs.World.{World, TypeEntry, DataType, ProtocolType, CoprotocolType, type_named}
-use Rattle.campl_types.specs.Polarity.{Deed, Puts, Gets, Forks, Splits, Picks, Offers, Ends, IsLinked, deed, of_named}
+use Rattle.campl_types.specs.World.{World}
+use Rattle.campl_types.specs.Polarity.{Deed, Puts, Gets, Forks, Splits, Picks, Offers, Ends, IsLinked}
 use Rattle.campl_types.specs.Views as plain
 use Rattle.campl_types.specs.Views.{View, As, Nothing, turned, deed_of, side_of}
 use Rattle.campl_types.specs.Linear.{AreJoined}

@@ -1,5 +1,5 @@
 -- What views take, and what a send or a receipt makes of the views of two partners.
-use Rattle.std.proofs.Common.{◌≡◌, ◌≢◌, ◌∙◌, refl, sym, ap, subst, ℕ, zero, suc, List, [], ◌∷◌, ◌++◌, Option, Some, None, slice_get}
+use Rattle.std.proofs.Common.{◌≡◌, ◌≢◌, ◌∙◌, refl, sym, ap, subst, ℕ, zero, suc, List, [], ◌∷◌, ◌++◌, Option, Some, slice_get}
 use Rattle.campl_tree.specs.declared.service.Side.{Side}
 use Rattle.campl_tree.specs.declared.service.Side.TheVariants.{Input, Output}
 use Rattle.campl_tree.specs.Side.{opposite}
@@ -8,9 +8,8 @@ use Rattle.campl_tree.specs.Plain.ChanType.{ChanType, Put, Get, Tensor, Par, Top
 use Rattle.campl_value.specs.Tree.{Tree}
 use Rattle.campl_types.specs.Names.{Name}
 use Rattle.campl_types.specs.SameType.{bare, bare_chan}
-use Rattle.campl_types.specs.Substitution.{list_of}
-use Rattle.campl_types.specs.World.{World, TypeEntry, DataType, ProtocolType, CoprotocolType, type_named}
-use Rattle.campl_types.specs.Polarity.{Deed, Puts, Gets, Forks, Splits, Picks, Offers, Ends, IsLinked, Choices, deed, of_named, bare_choices, bare_deed}
+use Rattle.campl_types.specs.World.{World}
+use Rattle.campl_types.specs.Polarity.{Deed, Puts, Gets, Splits, Picks, Offers, IsLinked, Choices, deed, bare_choices, bare_deed}
 use Rattle.campl_types.specs.Views as v
 use Rattle.campl_types.specs.Views.{View, As, Nothing, turned, deed_of, side_of}
 use Rattle.campl_types.proofs.Turned.{view-turned, answered, deed-turned}

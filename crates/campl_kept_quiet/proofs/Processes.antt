@@ -1,21 +1,15 @@
 -- Declared processes are typed, and a call binds their variables.
-use Rattle.std.proofs.Common.{◌≡◌, refl, sym, subst, Bool, true, false, IsTrue, List, [], ◌∷◌, Option, Some, None}
+use Rattle.std.proofs.Common.{refl, sym, subst, List, [], ◌∷◌}
 use Rattle.campl_tree.specs.declared.process.Binder.{Binder}
 use Rattle.campl_tree.specs.declared.process.Binder.TheVariants as binder
 use Rattle.campl_tree.specs.Plain.SeqType.{SeqType}
-use Rattle.campl_tree.specs.Plain.Decl.{Decl, Data, Protocol, Coprotocol, Function, Process, Program, ProcessDecl}
 use Rattle.campl_value.specs.Tree.{Tree}
-use Rattle.campl_types.specs.Names.{Name, same_name}
-use Rattle.campl_types.specs.World.{World, world_of, or_else, where_named, declared_ident, LowerEntry, AFunction, AProcess, lower_entry, lower_named, process_named}
-use Rattle.campl_types.specs.Linear.{ProcessIsTyped, ProcessesAreTyped, row_variables, bound}
-use Rattle.campl_types.specs.Typed.{IsTyped}
-use Rattle.campl_types.proofs.Lowers.{OfEach, of-process}
+use Rattle.campl_types.specs.World.{World}
+use Rattle.campl_types.specs.Linear.{row_variables, bound}
 use Rattle.campl_evaluation.specs.Typed.{AreBound}
 use Rattle.campl_evaluation.proofs.Bound.{bound-append}
 use Rattle.campl_evaluation.proofs.Sources.{filled-nothing}
 use Rattle.campl_meaning.specs.Bodies.{bind, bind_all}
-use Rattle.campl_meaning.specs.Lawful.{IsAccepted}
-use Rattle.campl_peel.specs.Trees.{PlugsAreTrees, ProcessesHaveTrees}
 use Rattle.campl_types.specs.Values.{IsValue, AllAreValues}
 
 one-bound : (w : World) (x : Binder) (t : SeqType) (v : Tree) → IsValue w v t → AreBound w [] (bind x v []) (bound x t [])
@@ -30,4 +24,3 @@ all-bound w (x ∷ xs) (t ∷ ts) (v ∷ vs) (h, k) =
     bound-append w [] (bind_all xs vs) (bind x v []) (row_variables xs ts) (bound x t []) (all-bound w xs ts vs k) (one-bound w x t v h)
 all-bound w (x ∷ xs) [] (v ∷ vs) h = absurd h
 all-bound w (x ∷ xs) (t ∷ ts) [] h = absurd h
-

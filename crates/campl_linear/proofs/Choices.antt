@@ -1,23 +1,17 @@
 -- In a well declared source a constructor is among the choices of a type exactly where its declaration is that
 -- type's, and what remains behind it is what that declaration says.
-use Rattle.std.proofs.Common.{◌≡◌, ◌∙◌, ◌⊎◌, inl, inr, refl, sym, ap, subst, ℕ, suc, Bool, true, false, ◌&&◌, ◌||◌, if◌then◌else◌, List, [], ◌∷◌, ◌++◌, Option, Some, None, map, eqb-true, true≢false}
-use Rattle.campl_tree.specs.declared.place.Ident.{Ident}
+use Rattle.std.proofs.Common.{◌≡◌, ◌∙◌, refl, sym, ap, subst, ℕ, suc, Bool, true, false, if◌then◌else◌, List, [], ◌∷◌, Option, Some, None, map}
 use Rattle.campl_tree.specs.Plain.SeqType.{SeqType}
-use Rattle.campl_tree.specs.Plain.Decl.{Decl, Data, Protocol, Coprotocol, Function, Process, Program, DataDecl, ProtocolDecl, CoprotocolDecl, DataConstructor, ProtocolConstructor, CoprotocolConstructor}
-use Rattle.campl_types.specs.declared.fault.NameFault.{NameFault}
-use Rattle.campl_types.specs.Names.{Name, same_name, is_among, are_distinct, found}
+use Rattle.campl_tree.specs.Plain.Decl.{Decl, Protocol, Coprotocol, Program, ProtocolDecl, CoprotocolDecl, ProtocolConstructor, CoprotocolConstructor}
+use Rattle.campl_types.specs.Names.{Name, same_name, found}
 use Rattle.campl_types.specs.Polarity.{line, protocol_choices, coprotocol_choices}
-use Rattle.campl_types.specs.Twice.{Space, Types, Constructors, Lowers, ParametersOf, same_space, in_space, declares, declared_from, is_declared, twice_among, twice_faults}
-use Rattle.campl_types.specs.Known.{each, in_decl}
-use Rattle.campl_types.specs.Run.{run_faults}
+use Rattle.campl_types.specs.Twice.{declared_from, twice_among}
 use Rattle.campl_types.specs.WellDeclared.{IsWellDeclared}
-use Rattle.campl_types.specs.World.{World, world_of, names_of, or_else, where_named, declared_ident, TypeEntry, ProtocolType, CoprotocolType, type_entry, type_named, ConstructorEntry, OfData, OfProtocol, OfCoprotocol, among_data, among_protocol, among_coprotocol, constructor_entry, constructor_named}
-use Rattle.campl_types.proofs.Names.{same-is, same-itself}
+use Rattle.campl_types.specs.World.{World, world_of, declared_ident, TypeEntry, ProtocolType, CoprotocolType, type_entry, type_named, ConstructorEntry, OfData, OfProtocol, OfCoprotocol, constructor_named}
+use Rattle.campl_types.proofs.Names.{same-itself}
 use Rattle.campl_linear.specs.Remains.{remains_of, remains}
-use Rattle.campl_types.proofs.Among.{DistinctFrom, none-distinct, distinct-more}
-use Rattle.campl_types.proofs.Truth.{not-true, no-both, and-first, and-second, or-first, or-second}
 use Rattle.campl_types.proofs.Listed.{IsIn}
-use Rattle.campl_types.proofs.DeclaredOnce.{data_lines, protocol_lines, coprotocol_lines, lines_in, in-type, line-named, not-its-own, protocol-own, coprotocol-own, once-declared}
+use Rattle.campl_types.proofs.DeclaredOnce.{protocol_lines, coprotocol_lines, lines_in, in-type, line-named, not-its-own, protocol-own, coprotocol-own, once-declared}
 
 protocol-told : (d : ProtocolDecl) (ts : List SeqType) (k : Name) (n : ℕ) (ks : List ProtocolConstructor)
     → found k (map (λ (c : ProtocolConstructor). (c.name.name, line d.local d.name d.parameters ts c.channel_type)) ks) ≡ remains_of d.name.name (found k (protocol_lines d n ks)) ts

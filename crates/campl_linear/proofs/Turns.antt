@@ -1,5 +1,5 @@
 -- What is judged in turn, and tests.
-use Rattle.std.proofs.Common.{◌≡◌, ◌∙◌, ◌⊎◌, inl, inr, refl, sym, ℕ, Bool, true, false, not, ◌&&◌, ◌||◌, nat_le, true≢false}
+use Rattle.std.proofs.Common.{◌≡◌, refl, sym, ℕ, Bool, true, false, ◌&&◌, nat_le, true≢false}
 use Rattle.std.proofs.lemmas.Bool.{le-leb, leb-true}
 use Rattle.campl_seqcheck.specs.Judged as seq
 use Rattle.campl_seqcheck.specs.Judged.{Fine, Judged, Is, Fails, and_then}

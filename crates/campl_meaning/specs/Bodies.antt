@@ -7,8 +7,7 @@ use Rattle.campl_tree.specs.Plain.Process as b
 use Rattle.campl_tree.specs.Plain.Process.{Body, HcaseRows, CaseRows, Branches}
 use Rattle.campl_value.specs.Tree.{Tree}
 use Rattle.campl_types.specs.Names.{Name, same_name, found}
-use Rattle.campl_types.specs.World.{World}
-use Rattle.campl_types.specs.Matching.{Bindings, number_of, is_number}
+use Rattle.campl_types.specs.Matching.{Bindings}
 use Rattle.campl_meaning.specs.States.{Ends}
 use Rattle.campl_machine.specs.Names.{End}
 

@@ -1,5 +1,5 @@
 -- Lawful configurations of a source: what holds of each that a run reaches.
-use Rattle.std.specs.Prelude.{◌≡◌, ◌≢◌, ◌⊎◌, ℕ, IsTrue, List, [], ◌∷◌, ◌++◌, Option, Some, None, codes}
+use Rattle.std.specs.Prelude.{◌≡◌, ◌≢◌, ◌⊎◌, ℕ, List, [], ◌∷◌, ◌++◌, Option, Some, None, codes}
 use Rattle.campl_tree.specs.declared.service.Side.{Side}
 use Rattle.campl_tree.specs.declared.service.Side.TheVariants.{Input, Output}
 use Rattle.campl_tree.specs.Plain.SeqType as s
@@ -7,7 +7,6 @@ use Rattle.campl_tree.specs.Plain.ChanType.{ChanType, Put, Get, TopBot, Named}
 use Rattle.campl_tree.specs.Plain.Decl.{Program}
 use Rattle.campl_machine.specs.Names.{Path, End, Who, Process, Service}
 use Rattle.campl_machine.specs.Progress.{Within}
-use Rattle.campl_types.specs.Names.{Name}
 use Rattle.campl_types.specs.SameType.{nowhere, IsSameChan}
 use Rattle.campl_types.specs.Prelude.{letters}
 use Rattle.campl_types.specs.World.{World, world_of}

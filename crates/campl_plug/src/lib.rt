@@ -23,8 +23,8 @@ mod search;
 mod tree;
 
 pub use laws::{
-    law_fault_computes, law_faults_are_one, law_order_computes, law_orders_are_one, law_parts_have_one_link_back, law_trees_have_no_cycle,
-    law_trees_have_no_fault,
+    law_fault_computes, law_faults_are_one, law_order_computes, law_orders_are_one,
+    law_parts_have_one_link_back, law_trees_have_no_cycle, law_trees_have_no_fault,
 };
 pub use plug::{Link, PlugFault};
 pub use tree::tree_order;

@@ -1,5 +1,5 @@
 -- What the next command of a lawful process does: each but an evaluation that says Deep moves, links, or is a receipt that takes what fits its view.
-use Rattle.std.proofs.Common.{◌≡◌, ◌≢◌, ℕ, zero, suc, arith, Bool, true, false, ◌&&◌, List, [], ◌∷◌, ◌++◌, inl, inr, refl, sym, ap, subst, ◌∙◌, true≢false, Option, Some, None, if◌then◌else◌, option_map, length, slice_get, eq-eqb}
+use Rattle.std.proofs.Common.{◌≡◌, ◌≢◌, ℕ, zero, suc, arith, Bool, true, false, ◌&&◌, List, [], ◌∷◌, ◌++◌, inl, inr, refl, sym, ap, subst, ◌∙◌, true≢false, Option, Some, None, if◌then◌else◌, option_map, length, slice_get}
 use Rattle.campl_tree.specs.declared.place.Ident.{Ident}
 use Rattle.campl_tree.specs.declared.service.Side.{Side}
 use Rattle.campl_tree.specs.declared.service.Side.TheVariants.{Input, Output}
@@ -20,8 +20,8 @@ use Rattle.campl_types.proofs.Names.{same-is, same-itself}
 use Rattle.campl_types.specs.World.{World, process_named}
 use Rattle.campl_types.specs.Fits.{Vars}
 use Rattle.campl_types.specs.Held.{Held, Channel, On}
-use Rattle.campl_types.specs.Linear.{IsWellFormed, BranchesAreWellFormed, HasEachOnce, AreHanded, ProcessIsTyped, body_rows, receives_on}
-use Rattle.campl_types.specs.Matching.{first_match, number_of, is_number, row_picked}
+use Rattle.campl_types.specs.Linear.{IsWellFormed, BranchesAreWellFormed, AreHanded, ProcessIsTyped, body_rows, receives_on}
+use Rattle.campl_types.specs.Matching.{first_match, number_of}
 use Rattle.campl_types.specs.Polarity.{ProtocolsAreKnown, CoprotocolsAreKnown, Deed, Puts, Gets, Forks, Splits, Picks, Offers, Ends, IsLinked, Choices, deed}
 use Rattle.campl_types.specs.Sequential.{Found, Checked}
 use Rattle.campl_types.specs.Views.{View, deed_of, side_of}

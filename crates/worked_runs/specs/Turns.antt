@@ -1,11 +1,9 @@
 -- Runs that compute: turns are tried in an order, and the first that is a reduction is made.
 use Rattle.std.specs.Prelude.{ℕ, zero, suc, List, [], ◌∷◌, Option, Some, None, option_map}
-use Rattle.std.specs.Prelude.{codes}
 use Rattle.campl_machine.specs.Names.{Who, Process, Service}
-use Rattle.campl_types.specs.World.{World, world_of}
+use Rattle.campl_types.specs.World.{World}
 use Rattle.campl_service.specs.Transcripts.{Records}
 use Rattle.campl_meaning.specs.Reductions.{Configuration, reduce}
-use Rattle.campl_meaning.specs.Start.{start}
 use Rattle.campl_meaning.specs.Ends.{transcript_of}
 
 -- A process or service, and a branch of a race that it may take
