@@ -1,5 +1,5 @@
 #!/bin/sh
-# Times the program on printing sources, as ratios in one run. Build it first, by ./campl run examples/hello.campl.
+# Times the program on printing sources, as ratios in one run. Prove and build it first, by rt ci or by rt run in crates/campl.
 set -eu
 cd "$(dirname "$0")/.."
 program=crates/campl/out/campl

@@ -7,3 +7,4 @@ pub mod Phases
 pub mod Shapes
 pub mod Limits
 pub mod OneAnswer
+pub mod OneFault

@@ -12,7 +12,7 @@ use Rattle.campl_lex.specs.Tokens as says
 use Rattle.campl_lex.specs.declared.stack.Enclosure.{Enclosure}
 use Rattle.campl_lex.specs.declared.stack.Enclosure.TheVariants.{Block, Bracket}
 use Rattle.campl_lex.specs.Enclosure.{has_bracket, nearest}
-use Rattle.campl_lex.specs.Layout.{laid_out, laid, adds, Put, onto, andThen, separated, closing, is_closing_bracket, is_block_word, text_of, before, block_opened, aligned, follow, behind, opens_last, first_brace}
+use Rattle.campl_lex.specs.Layout.{laid_out, laid, adds, Put, onto, and_then, separated, closing, is_closing_bracket, opens_block, before, block_opened, aligned, follow, behind, opens_last, first_brace}
 use Rattle.campl_tree.specs.Plain.Decl as d
 use Rattle.campl_types.specs.declared.fault.NameFault.{NameFault}
 use Rattle.campl_types.specs.declared.fault.NameFault.TheVariants as naming
@@ -93,7 +93,7 @@ column_onto : (front : List Token) (p : Put) → OnlyColumn p → OnlyColumn (on
 column_onto front (Ok q) h = tt
 column_onto front (Err f) h = h
 
-column_then : (p : Put) (next : List Enclosure → Put) → OnlyColumn p → ((s : List Enclosure) → OnlyColumn (next s)) → OnlyColumn (andThen p next)
+column_then : (p : Put) (next : List Enclosure → Put) → OnlyColumn p → ((s : List Enclosure) → OnlyColumn (next s)) → OnlyColumn (and_then p next)
 column_then (Ok q) next h k = column_onto q.0 (next q.1) (k q.1)
 column_then (Err f) next h k = h
 
@@ -102,15 +102,15 @@ column_separated t closed [] = tt
 column_separated t closed (Block c ∷ stack) = column_if (c == t.place.column) _ _ tt (column_if (length closed == 0) _ _ tt tt)
 column_separated t closed (Bracket c ∷ stack) = tt
 
-column_closing : (text : List ℕ) (t : Token) (other : List Enclosure → Put) (stack : List Enclosure) → OnlyColumn (other stack) → OnlyColumn (closing text t other stack)
-column_closing text t other stack h = column_if (is_closing_bracket (text_of text t) && has_bracket stack) _ _ tt h
+column_closing : (t : Token) (other : List Enclosure → Put) (stack : List Enclosure) → OnlyColumn (other stack) → OnlyColumn (closing t other stack)
+column_closing t other stack h = column_if (is_closing_bracket t.kind && has_bracket stack) _ _ tt h
 
-column_before : (text : List ℕ) (last : Option Token) (t : Token) (stack : List Enclosure) → OnlyColumn (before text last t stack)
-column_before text None t stack = column_if (t.place.column == 1) _ _ tt tt
-column_before text (Some last) t stack =
-    column_if (is_block_word (text_of text last)) _ _
-    (column_then (block_opened t stack) (closing text t (λ s. Ok ([], s))) (column_if (nat_lt (nearest stack) t.place.column) _ _ tt tt) (λ s. column_closing text t (λ s. Ok ([], s)) s tt))
-    (column_closing text t (λ s. if t.place.line == last.place.line then Ok ([], s) else aligned t s) stack
+column_before : (last : Option Token) (t : Token) (stack : List Enclosure) → OnlyColumn (before last t stack)
+column_before None t stack = column_if (t.place.column == 1) _ _ tt tt
+column_before (Some last) t stack =
+    column_if (opens_block last.kind) _ _
+    (column_then (block_opened t stack) (closing t (λ s. Ok ([], s))) (column_if (nat_lt (nearest stack) t.place.column) _ _ tt tt) (λ s. column_closing t (λ s. Ok ([], s)) s tt))
+    (column_closing t (λ s. if t.place.line == last.place.line then Ok ([], s) else aligned t s) stack
     (column_if (t.place.line == last.place.line) _ _ tt (column_separated t _ _)))
 
 column_adds : (front : List Token) (r : Result (List Token) LexFault) → OnlyColumn r → OnlyColumn (adds front r)
@@ -123,9 +123,9 @@ column_follow (Err f) t rest h k = h
 
 column_laid : (text : List ℕ) (end : Place) (stack : List Enclosure) (last : Option Token) (tokens : List Token) → OnlyColumn (laid text end stack last tokens)
 unfolding laid
-column_laid text end stack last [] = column_if (opens_last text last) _ _ tt tt
+column_laid text end stack last [] = column_if (opens_last last) _ _ tt tt
 column_laid text end stack last (t ∷ ts) =
-    column_follow (before text last t stack) t (λ s. laid text end (behind text t s) (Some t) ts) (column_before text last t stack) (λ s. column_laid text end (behind text t s) (Some t) ts)
+    column_follow (before last t stack) t (λ s. laid text end (behind t s) (Some t) ts) (column_before last t stack) (λ s. column_laid text end (behind t s) (Some t) ts)
 
 column_only : (text : List ℕ) (end : Place) (tokens : List Token) → OnlyColumn (laid_out text end tokens)
 column_only text end tokens = column_adds (first_brace text end tokens ∷ []) (laid text end (Block 1 ∷ []) None tokens) (column_laid text end (Block 1 ∷ []) None tokens)

@@ -11,30 +11,30 @@ use Rattle.campl_tree.specs.declared.types.ChanType.TheVariants as chan
 use Rattle.campl_tree.specs.declared.process.Action.{Action}
 use Rattle.campl_tree.specs.View.{view_chan, view_action}
 use Rattle.campl_tree.proofs.Views.{view_chan-Named}
-use Rattle.campl_cli.specs.Form.{is_console, printed_by_row, printed_by_body, printed_text, printed_on, before, behind}
+use Rattle.campl_cli.specs.Form.{is_console_type, prints_of_row, prints_of_body, text_printed, printed_on, before, behind}
 
 -- a name with arguments isn't
-pub applied : (at : Place) (x : List ℕ) (ts : List SeqType) → ts ≢ [] → false ≡ is_console (view_chan (chan.Named at x ts))
+pub applied : (at : Place) (x : List ℕ) (ts : List SeqType) → ts ≢ [] → false ≡ is_console_type (view_chan (chan.Named at x ts))
 applied at x [] some = absurd (some refl)
 applied at x (t ∷ ts) some = rw (view_chan-Named at x (t ∷ ts)) refl
 
 -- a row with one input
-pub of_one : (xs : List Ident) (x : Ident) (body : Body) → 1 ≤ length xs → length xs < 2 → x ≡ get_or xs 0 x → printed_by_body x body ≡ printed_by_row xs body
+pub of_one : (xs : List Ident) (x : Ident) (body : Body) → 1 ≤ length xs → length xs < 2 → x ≡ get_or xs 0 x → prints_of_body x body ≡ prints_of_row xs body
 of_one [] x body some few is = absurd (omega arith)
-of_one (y ∷ []) x body some few is = ap (λ i. printed_by_body i body) is
+of_one (y ∷ []) x body some few is = ap (λ i. prints_of_body i body) is
 of_one (y ∷ z ∷ xs) x body some few is = absurd (omega arith)
 
 -- what two commands and those behind them print
 two_first : (x : List ℕ) (h : Option Ident) (xs : List Action) (a b : Action) → 2 ≤ length xs → a ≡ get_or xs 0 a → b ≡ get_or xs 1 b
-    → printed_on x (map view_action xs) h ≡ before (printed_text x (view_action a) (view_action b)) (printed_on x (map view_action (take (length xs - 2) (drop 2 xs))) h)
+    → printed_on x (map view_action xs) h ≡ before (text_printed x (view_action a) (view_action b)) (printed_on x (map view_action (take (length xs - 2) (drop 2 xs))) h)
 two_first x h [] a b some is one = absurd (omega (arith, some))
 two_first x h (y ∷ []) a b some is one = absurd (omega (arith, some))
 two_first x h (y ∷ z ∷ zs) a b some is one =
     let n : length (y ∷ z ∷ zs) - 2 ≡ length zs = omega arith in
     let rest : take (length (y ∷ z ∷ zs) - 2) zs ≡ zs = ap (λ k. take k zs) n ∙ take-length zs in
-    ap (λ (l : List Action). before (printed_text x (view_action y) (view_action z)) (printed_on x (map view_action l) h)) (sym rest)
-    ∙ ap (λ i. before (printed_text x (view_action i) (view_action z)) (printed_on x (map view_action (take (length (y ∷ z ∷ zs) - 2) zs)) h)) (sym is)
-    ∙ ap (λ i. before (printed_text x (view_action a) (view_action i)) (printed_on x (map view_action (take (length (y ∷ z ∷ zs) - 2) zs)) h)) (sym one)
+    ap (λ (l : List Action). before (text_printed x (view_action y) (view_action z)) (printed_on x (map view_action l) h)) (sym rest)
+    ∙ ap (λ i. before (text_printed x (view_action i) (view_action z)) (printed_on x (map view_action (take (length (y ∷ z ∷ zs) - 2) zs)) h)) (sym is)
+    ∙ ap (λ i. before (text_printed x (view_action a) (view_action i)) (printed_on x (map view_action (take (length (y ∷ z ∷ zs) - 2) zs)) h)) (sym one)
 
 one_behind : (front : List (List ℕ)) (text : List ℕ) (o : Option (List (List ℕ))) → behind (front ++ text ∷ []) o ≡ behind front (before (Some text) o)
 one_behind front text (Some texts) = ap Some (append_assoc front (text ∷ []) texts)
@@ -42,7 +42,7 @@ one_behind front text None = refl
 
 -- a text more is one that is printed before the others
 pub one_more_text : {Z : Type 0} (x : List ℕ) (h : Option Ident) (xs : List Action) (a b : Action) (text : List ℕ) (old new : List (String Z)) (s : String Z)
-    → 2 ≤ length xs → a ≡ get_or xs 0 a → b ≡ get_or xs 1 b → Some text ≡ printed_text x (view_action a) (view_action b)
+    → 2 ≤ length xs → a ≡ get_or xs 0 a → b ≡ get_or xs 1 b → Some text ≡ text_printed x (view_action a) (view_action b)
     → chars (string_bytes s) ≡ text → new ≡ old ++ s ∷ []
     → behind (map chars (map string_bytes new)) (printed_on x (map view_action (take (length xs - 2) (drop 2 xs))) h) ≡ behind (map chars (map string_bytes old)) (printed_on x (map view_action xs) h)
 one_more_text x h xs a b text old new s some is one prints spelled pushed =

@@ -1,6 +1,6 @@
 -- The four ways in which the command ends.
 use Rattle.std.proofs.Common.{◌≡◌, ◌<◌, ℕ, ◌+◌, List, [], ◌∷◌, arith, inl, inr, ap, ap₂, sym, subst, ◌∙◌, map}
-use Rattle.std.specs.Prelude.{All, string_bytes}
+use Rattle.std.specs.Prelude.{All}
 use Rattle.std.specs.List.{fold}
 use Rattle.std.proofs.lemmas.List.{length-map}
 use Rattle.std.proofs.Math.ListN.{get_or-map}
@@ -47,7 +47,7 @@ module _ (words : List (List ℕ)) (files : Files) (out err : Stream) (report : 
       ended = told.ended;
     }
 
-    output_is : string_bytes performance.output ≡ printed p report comes.last
+    output_is : performance.output.items ≡ printed p report comes.last
     output_is =
         done.output ∙ ap₂ (λ (transcript : Transcript) (steps : ℕ). output_of ((p.console, transcript) ∷ []) e.Finished [] steps) (sym comes.transcript) (sym told.steps)
 

@@ -1,5 +1,5 @@
 -- The form of a program that prints texts on one console, closes it and halts.
-use Rattle.std.specs.Prelude.{◌≡◌, ℕ, ◌≤◌, ◌⊎◌, Bool, true, false, ◌&&◌, List, [], ◌∷◌, ◌++◌, map, length, slice_index, All, Option, Some, None, option_map, if◌then◌else◌, codes, chars, string_bytes, String, Vec, nat_eq}
+use Rattle.std.specs.Prelude.{◌≡◌, ℕ, ◌≤◌, ◌⊎◌, Bool, false, ◌&&◌, List, [], ◌∷◌, ◌++◌, map, length, slice_index, All, Option, Some, None, option_map, if◌then◌else◌, codes, chars, string_bytes, String, Vec, nat_eq}
 use Rattle.std.specs.Cmp.Lexicographic.{pointwise}
 use Rattle.campl_tree.specs.declared.place.Ident.{Ident}
 use Rattle.campl_tree.specs.Plain.SeqType as s
@@ -12,6 +12,7 @@ use Rattle.campl_tree.specs.declared.decl.ProcessDecl.{ProcessDecl}
 use Rattle.campl_tree.specs.declared.decl.Decl.{Decl}
 use Rattle.campl_tree.specs.declared.decl.Decl.TheVariants as decl
 use Rattle.campl_tree.specs.declared.decl.Program.{Program}
+use Rattle.campl_types.specs.Names.{is_empty}
 use Rattle.campl_cli.specs.declared.printer.Printer.{Printer}
 
 -- the console's name and each text, by their characters
@@ -22,26 +23,26 @@ pub record Prints : Type 0 where
 -- ---- the texts that a body prints
 
 -- a name is these characters
-abbrev pub is : List ℕ → Ident → Bool
-is x name = pointwise nat_eq name.name x
+abbrev pub is_word : List ℕ → Ident → Bool
+is_word x name = pointwise nat_eq name.name x
 
 -- the name of a constructor stands before the channel's
-abbrev pub on : (constructor channel : List ℕ) → Ident → Ident → Bool
-on constructor channel k x = is constructor k && is channel x
+abbrev pub on_channel : (constructor channel : List ℕ) → Ident → Ident → Bool
+on_channel constructor channel k x = is_word constructor k && is_word channel x
 
 -- the text that an expression is
-abbrev pub text_in : e.Expr → Option (List ℕ)
-text_in (e.Text at text) = Some text
-text_in _ = None
+abbrev pub literal_text : e.Expr → Option (List ℕ)
+literal_text (e.Text at text) = Some text
+literal_text _ = None
 
 -- `hput ConsolePut on x` and `put TEXT on x` print the text
-abbrev pub printed_text : List ℕ → b.Action → b.Action → Option (List ℕ)
-printed_text x (b.Hput at k a) (b.Put at2 value z) = if on (codes "ConsolePut") x k a && is x z then text_in value else None
-printed_text x _ _ = None
+abbrev pub text_printed : List ℕ → b.Action → b.Action → Option (List ℕ)
+text_printed x (b.Hput at k a) (b.Put at2 value z) = if on_channel (codes "ConsolePut") x k a && is_word x z then literal_text value else None
+text_printed x _ _ = None
 
 -- `hput ConsoleClose on x` and `halt x` print nothing more
 abbrev pub nothing_more : List ℕ → b.Action → Option Ident → Option (List (List ℕ))
-nothing_more x (b.Hput at k a) (Some z) = if on (codes "ConsoleClose") x k a && is x z then Some [] else None
+nothing_more x (b.Hput at k a) (Some z) = if on_channel (codes "ConsoleClose") x k a && is_word x z then Some [] else None
 nothing_more x _ _ = None
 
 -- a text before others, where there are both
@@ -63,44 +64,40 @@ halted_channel _ = None
 abbrev pub printed_on : List ℕ → List b.Action → Option Ident → Option (List (List ℕ))
 printed_on x [] channel = None
 printed_on x (first ∷ []) channel = nothing_more x first channel
-printed_on x (first ∷ second ∷ rest) channel = before (printed_text x first second) (printed_on x rest channel)
+printed_on x (first ∷ second ∷ rest) channel = before (text_printed x first second) (printed_on x rest channel)
 
 -- ---- the process
 
-abbrev pub is_empty : {A : Type 0} → List A → Bool
-is_empty [] = true
-is_empty (x ∷ xs) = false
-
 -- the type is `Console`
-abbrev pub is_console : c.ChanType → Bool
-is_console (c.Named at x s.no_types) = pointwise nat_eq x (codes "Console")
-is_console _ = false
+abbrev pub is_console_type : c.ChanType → Bool
+is_console_type (c.Named at x s.no_types) = pointwise nat_eq x (codes "Console")
+is_console_type _ = false
 
-abbrev pub is_one_console : List c.ChanType → Bool
-is_one_console (t ∷ []) = is_console t
-is_one_console _ = false
+abbrev pub is_one_console_type : List c.ChanType → Bool
+is_one_console_type (t ∷ []) = is_console_type t
+is_one_console_type _ = false
 
 -- `proc run :: | Console => `
-abbrev pub has_heading : ProcessDecl → Bool
-has_heading p = is (codes "run") p.name && is_empty p.parameters && is_one_console (map view_chan p.inputs) && is_empty p.outputs
+abbrev pub has_printing_heading : ProcessDecl → Bool
+has_printing_heading p = is_word (codes "run") p.name && is_empty p.parameters && is_one_console_type (map view_chan p.inputs) && is_empty p.outputs
 
 -- the name and the texts of a body that prints on this input
-abbrev pub printed_by_body : Ident → Body → Option Prints
-printed_by_body x body =
+abbrev pub prints_of_body : Ident → Body → Option Prints
+prints_of_body x body =
     option_map (λ texts. record { console = x.name; texts = texts }) (printed_on x.name (map view_action (out-Body body).actions) (halted_channel (view_last (out-Body body).last)))
 
 -- the same of a row `| NAME => -> BODY`
-abbrev pub printed_by_row : List Ident → Body → Option Prints
-printed_by_row (x ∷ []) body = printed_by_body x body
-printed_by_row _ body = None
+abbrev pub prints_of_row : List Ident → Body → Option Prints
+prints_of_row (x ∷ []) body = prints_of_body x body
+prints_of_row _ body = None
 
-abbrev pub printed_by_process : ProcessDecl → Option Prints
-printed_by_process p = if has_heading p && is_empty p.row.variables && is_empty p.row.outputs then printed_by_row p.row.inputs p.row.body else None
+abbrev pub prints_of_process : ProcessDecl → Option Prints
+prints_of_process p = if has_printing_heading p && is_empty p.row.variables && is_empty p.row.outputs then prints_of_row p.row.inputs p.row.body else None
 
 -- what a program prints that is one such process
-abbrev pub printed_by : List Decl → Option Prints
-printed_by (decl.Process p ∷ []) = printed_by_process p
-printed_by _ = None
+abbrev pub prints_of_program : List Decl → Option Prints
+prints_of_program (decl.Process p ∷ []) = prints_of_process p
+prints_of_program _ = None
 
 -- ---- limits
 
@@ -129,7 +126,7 @@ pub record IsFine (p : Prints) : Type 0 where
 
 -- the program is of the form, and prints these texts
 abbrev pub IsFormOf : Prints → Program → Type 0
-IsFormOf p program = (printed_by program.declarations ≡ Some p) × IsFine p
+IsFormOf p program = (prints_of_program program.declarations ≡ Some p) × IsFine p
 
 -- the characters of each text
 abbrev pub characters_of_all : {Z : Type 0} → Vec (String Z) Z → List (List ℕ)

@@ -1,5 +1,5 @@
 -- What a run did and prints, before any of it is written.
-use Rattle.std.specs.Prelude.{◌≡◌, ◌⊎◌, [], ◌∷◌, ◌++◌, Some, map, string_bytes}
+use Rattle.std.specs.Prelude.{◌≡◌, ◌⊎◌, [], ◌∷◌, ◌++◌, Some, map}
 use Rattle.campl_first_path.specs.States.{Took, WasClosed}
 use Rattle.campl_first_path.specs.Ends as e
 use Rattle.campl_first_path.specs.Output.{output_of}
@@ -16,7 +16,7 @@ use Rattle.campl_cli.specs.Answer.{Stream, Had, HadNothing, HadOrFailed, FailedI
 pub record IsPerformance (p : Prints) (performance : Performance) : Type 0 where
   pub fine : IsFine p
   pub journal : plain_entries performance.journal.entries ≡ journal_of p.texts
-  pub output : string_bytes performance.output
+  pub output : performance.output.items
       ≡ output_of ((p.console, map Took p.texts ++ (WasClosed ∷ [])) ∷ []) e.Finished [] (weight_of performance.journal.entries)
 
 -- the output is written, or couldn't be, and the run is reported
@@ -24,5 +24,5 @@ pub record IsPrinted (performance : Performance) (out err : Stream) (report : Re
   pub entries : report.journal.entries ≡ performance.journal.entries
   pub steps : report.steps ≡ weight_of performance.journal.entries
   pub ended : report.ended ≡ Some Finished
-  pub written : ((report.status ≡ 0) × Had out (string_bytes performance.output) × HadNothing err)
-      ⊎ ((report.status ≡ 6) × FailedIn out (string_bytes performance.output) × HadOrFailed err write_fault_line)
+  pub written : ((report.status ≡ 0) × Had out (performance.output.items) × HadNothing err)
+      ⊎ ((report.status ≡ 6) × FailedIn out (performance.output.items) × HadOrFailed err write_fault_line)

@@ -9,9 +9,9 @@ use Rattle.campl_lex.specs.Spot.{first_spot, first_place, place_past}
 use Rattle.campl_lex.specs.Tokens.{Lexes}
 use Rattle.campl_lex.specs.Layout.{laid_out}
 use Rattle.campl_gram.specs.Verdicts.{Stops, Sinks}
-use Rattle.campl_grammar.specs.Word.{Word}
+use Rattle.campl_grammar.specs.Terminal.{Terminal}
 use Rattle.campl_grammar.specs.Rules.{IsProgram, limit}
-use Rattle.campl_words.specs.Words.{words}
+use Rattle.campl_terminals.specs.Terminals.{terminals_of}
 use Rattle.campl_parse.specs.Parsing as parsing
 use Rattle.campl_cli.specs.declared.fault.SourceFault.{SourceFault}
 use Rattle.campl_cli.specs.declared.refusal.Refusal.{Refusal}
@@ -39,11 +39,11 @@ HasLayout text laid = (tokens : List Token) × HasTokens text tokens × (laid_ou
 
 -- the text has a layout whose words, nested no deeper than the limit, are a program with this tree
 abbrev pub HasTree : List ℕ → Program → Type 0
-HasTree text program = (laid : List Token) × HasLayout text laid × parsing.HasTree (words text laid) program
+HasTree text program = (laid : List Token) × HasLayout text laid × parsing.HasTree (terminals_of text laid) program
 
 -- the text has a layout, and a fault stands at a word of it
-abbrev pub HasNoTree : List ℕ → (List Word → List Word → Type 0) → Place → Type 0
-HasNoTree text is at = (laid : List Token) × HasLayout text laid × parsing.StandsAt is (words text laid) at
+abbrev pub HasNoTree : List ℕ → (List Terminal → List Terminal → Type 0) → Place → Type 0
+HasNoTree text is at = (laid : List Token) × HasLayout text laid × parsing.StandsAt is (terminals_of text laid) at
 
 -- the text's first fault of tokens, of layout or of the grammar
 abbrev pub IsTextFault : List ℕ → FaultKind → Place → Type 0

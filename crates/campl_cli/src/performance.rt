@@ -22,7 +22,7 @@ const WRITE_FAULT_LINE: &str = "campl: write fault\n";
 #[derive(Drop)]
 pub struct Performance {
     pub journal: Journal,
-    pub output: String,
+    pub output: Vec<u8>,
 }
 
 /// Runs a printer, and builds its whole output.
@@ -44,7 +44,7 @@ pub fn print<O: Sink, E: Sink>(performance: Performance, out: &mut O, err: &mut 
         result }
 {
     let Performance { journal, output } = performance;
-    match write_all_of(out, output.as_bytes()) {
+    match write_all_of(out, output.as_slice()) {
         Ok(()) => finished(0, journal),
         Err(_) => {
             tell_write_fault(err);

@@ -2,7 +2,7 @@
 ghost use Rattle.std.specs.Prelude.{◌≡◌, ℕ, List, MatchResult, IfOk};
 ghost use Rattle.std.specs.List.{All};
 ghost use Rattle.campl_lex.specs.Layout.{IsWritten, IsWhole};
-ghost use Rattle.campl_words.specs.Words.{IsCut};
+ghost use Rattle.campl_terminals.specs.Terminals.{IsCut};
 ghost use Rattle.campl_tree.specs.declared.place.Place.{Place};
 ghost use Rattle.campl_tree.specs.declared.decl.Program.{Program};
 ghost use Rattle.campl_cli.specs.Source.{HasTokens, HasLayout, HasTree, IsTextFault, IsTreeRefusal, refusal_of_lexing};
@@ -72,8 +72,9 @@ pub fn tree_of(alloc: Global, text: &Text) -> Result<Program, Refusal>
     }
 }
 
-/// A text has one tree or a fault of tokens, layout or grammar, and never both.
+/// A text has one tree or one first fault of tokens, layout or grammar, and never both.
 pub fn one_answer()
     ensures tree { (text : List ℕ) (this that : Program) → HasTree text this → HasTree text that → this ≡ that }
     ensures no_fault { (text : List ℕ) (program : Program) (kind : FaultKind) (at : Place) → HasTree text program → ¬ (IsTextFault text kind at) }
+    ensures one_fault { (text : List ℕ) (kind other : FaultKind) (at there : Place) → IsTextFault text kind at → IsTextFault text other there → (kind ≡ other) × (at ≡ there) }
 {}

@@ -23,7 +23,7 @@ use Rattle.campl_types.specs.World.{World, ConstructorEntry, OfData, OfProtocol,
 use Rattle.campl_evaluation.specs.Typed.{AreBound}
 use Rattle.campl_evaluation.specs.Worlds.{IsSoundWorld}
 use Rattle.campl_evaluation.proofs.Instance.{parts-of}
-use Rattle.campl_evaluation.proofs.Compose.{filled-list, length-filled, list-composed}
+use Rattle.campl_types.proofs.Compose.{filled-list, length-filled, list-composed}
 
 -- Bindings
 

@@ -25,14 +25,14 @@ use Rattle.campl_types.proofs.TypedRows.{row-at, function-chooses, case-chooses}
 use Rattle.campl_evaluation.specs.Evaluation.{Answer, Done, Deep, Wrong, More, and_then, truth, int, char, holds, calculated, char_of, Caller, value, values, row_value, body_value, calls, value_of}
 use Rattle.campl_evaluation.specs.Typed.{AreBound, Fine, CallerIsSound}
 use Rattle.campl_evaluation.specs.Worlds.{IsSoundWorld}
-use Rattle.campl_evaluation.proofs.Compose.{composed, list-composed}
-use Rattle.campl_evaluation.proofs.Same.{of-filled}
 use Rattle.campl_evaluation.proofs.Instance.{instance-of, instances-of}
 use Rattle.campl_evaluation.proofs.Bound.{bound-append, bound-found, row-bound, one-bound}
 use Rattle.campl_evaluation.proofs.Whole.{built-is}
 use Rattle.campl_evaluation.proofs.Forms.{fine-then, fine-given, fine-made, is-truth, is-int, is-char, text-is, append-is, AllOf, list-is, compares}
 use Rattle.campl_types.specs.Values.{IsValue, AllAreValues}
 use Rattle.campl_types.proofs.Among.{within-once, within-left, within-right}
+use Rattle.campl_types.proofs.Compose.{composed, list-composed}
+use Rattle.campl_types.proofs.SameValue.{value-of-filled}
 
 -- Expressions
 
@@ -71,7 +71,7 @@ call-fine w call ok f x fd ts us m t i l j p =
     let args = list-composed f ps ts l fd.parameters (within-left (variables_of_list fd.parameters) (variables_of fd.result) ps all) in
     let result = composed f ps ts l fd.result (within-right (variables_of_list fd.parameters) (variables_of fd.result) ps all) in
     fine-weaker (λ v. IsValue w v (filled g fd.result)) (λ v. IsValue w v (filled f t)) (call x us m)
-    (λ v h. of-filled w v f t (filled (filling ps ts) fd.result) j (subst (IsValue w v) (sym result) h))
+    (λ v h. value-of-filled w v f t (filled (filling ps ts) fd.result) j (subst (IsValue w v) (sym result) h))
     (ok x fd i g us m (subst (AllAreValues w us) args p))
 
 -- a `case` has a row for each value
@@ -83,32 +83,32 @@ case-chosen w good f rows u v x p =
 mutual
   pub sound : (w : World) → IsSoundWorld w → (call : Caller) → CallerIsSound w call → (way : Way) (f : Filling) (vs : Vars) (a : Expr) (t : SeqType) (vars : Bindings) (n : ℕ)
       → AreBound w f vars vs → HasType way w vs a t → Fine (λ v. IsValue w v (filled f t)) (value w call a vars n)
-  sound w good call ok way f vs (e.Number at x) t vars n b h = of-filled w (Int x) f t s.Int h tt
-  sound w good call ok way f vs (e.Character at x) t vars n b h = of-filled w (Char x) f t s.Char h tt
-  sound w good call ok way f vs (e.Text at text) t vars n b h = fine-made _ (text_of text) n (of-filled w (text_of text) f t (s.List s.Char) h (text-is w text))
-  sound w good call ok way f vs (e.True at) t vars n b h = of-filled w (Truth true) f t s.Bool h tt
-  sound w good call ok way f vs (e.False at) t vars n b h = of-filled w (Truth false) f t s.Bool h tt
+  sound w good call ok way f vs (e.Number at x) t vars n b h = value-of-filled w (Int x) f t s.Int h tt
+  sound w good call ok way f vs (e.Character at x) t vars n b h = value-of-filled w (Char x) f t s.Char h tt
+  sound w good call ok way f vs (e.Text at text) t vars n b h = fine-made _ (text_of text) n (value-of-filled w (text_of text) f t (s.List s.Char) h (text-is w text))
+  sound w good call ok way f vs (e.True at) t vars n b h = value-of-filled w (Truth true) f t s.Bool h tt
+  sound w good call ok way f vs (e.False at) t vars n b h = value-of-filled w (Truth false) f t s.Bool h tt
   sound w good call ok way f vs (e.Variable at x) t vars n b (u, i, j) =
       let r = bound-found w f x vars vs u b i in
-      fine-given _ (found x vars) r.0 n _ r.1 (of-filled w r.0 f t u j r.2)
+      fine-given _ (found x vars) r.0 n _ r.1 (value-of-filled w r.0 f t u j r.2)
   sound w good call ok way f vs (e.Cons at a c) t vars n b (u, i, h, k) =
       fine-then _ _ _ _ (sound w good call ok way f vs a u vars n b h)
       (λ v m p. fine-then _ _ _ _ (sound w good call ok Checked f vs c (s.List u) vars m b k)
-      (λ x l q. fine-made _ (Cell v x) l (of-filled w (Cell v x) f t (s.List u) i (p, q))))
-  sound w good call ok Checked f vs (e.List at e.no_exprs) t vars n b (u, i) = fine-made (λ v. IsValue w v (filled f t)) Nil n (of-filled w Nil f t (s.List u) i tt)
+      (λ x l q. fine-made _ (Cell v x) l (value-of-filled w (Cell v x) f t (s.List u) i (p, q))))
+  sound w good call ok Checked f vs (e.List at e.no_exprs) t vars n b (u, i) = fine-made (λ v. IsValue w v (filled f t)) Nil n (value-of-filled w Nil f t (s.List u) i tt)
   sound w good call ok Found f vs (e.List at e.no_exprs) t vars n b h = absurd h
   sound w good call ok way f vs (e.List at (e.expr_then a rest)) t vars n b (u, i, h, k) =
       fine-then (AllOf w (filled f u)) _ (values w call (e.expr_then a rest) vars n) _
       (fine-cons w (filled f u) (value w call a vars n) (values w call rest vars) (sound w good call ok way f vs a u vars n b h) (λ m. sound-items w good call ok f vs rest u vars m b k))
-      (λ us m p. fine-made _ (in_front us Nil) m (of-filled w (in_front us Nil) f t (s.List u) i (list-is w (filled f u) us p)))
+      (λ us m p. fine-made _ (in_front us Nil) m (value-of-filled w (in_front us Nil) f t (s.List u) i (list-is w (filled f u) us p)))
   sound w good call ok way f vs (e.Append at a c) t vars n b (u, i, h, k) =
       fine-then _ _ _ _ (sound w good call ok way f vs a (s.List u) vars n b h)
       (λ v m p. fine-then _ _ _ _ (sound w good call ok Checked f vs c (s.List u) vars m b k)
-      (λ x l q. let r = append-is w v x (filled f u) p q in fine-given _ (appended v x) r.0 l _ r.1 (fine-made _ r.0 l (of-filled w r.0 f t (s.List u) i r.2))))
+      (λ x l q. let r = append-is w v x (filled f u) p q in fine-given _ (appended v x) r.0 l _ r.1 (fine-made _ r.0 l (value-of-filled w r.0 f t (s.List u) i r.2))))
   sound w good call ok way f vs (e.Pair at a c) t vars n b (u, y, i, h, k) =
       fine-then _ _ _ _ (sound w good call ok way f vs a u vars n b h)
       (λ v m p. fine-then _ _ _ _ (sound w good call ok way f vs c y vars m b k)
-      (λ x l q. fine-made _ (Pair v x) l (of-filled w (Pair v x) f t (s.Pair u y) i (p, q))))
+      (λ x l q. fine-made _ (Pair v x) l (value-of-filled w (Pair v x) f t (s.Pair u y) i (p, q))))
   sound w good call ok way f vs (e.If at a c d) t vars n b (h, k, l) =
       fine-then _ _ _ _ (sound w good call ok Checked f vs a s.Bool vars n b h)
       (λ v m p. let r = is-truth w v p in fine-given _ (truth v) r.0 m _ r.1
@@ -120,41 +120,41 @@ mutual
   sound w good call ok way f vs (e.Compare at a op c) t vars n b (u, can, i, h, k) =
       fine-then _ _ _ _ (sound w good call ok Found f vs a u vars n b h)
       (λ v m p. fine-then _ _ _ _ (sound w good call ok Checked f vs c u vars m b k)
-      (λ x l q. let r = compares w f u v x can p q in fine-given _ (compared v x) r.0 l _ r.1 (of-filled w (Truth (holds op r.0)) f t s.Bool i tt)))
+      (λ x l q. let r = compares w f u v x can p q in fine-given _ (compared v x) r.0 l _ r.1 (value-of-filled w (Truth (holds op r.0)) f t s.Bool i tt)))
   sound w good call ok way f vs (e.Or at a c) t vars n b (i, h, k) =
       fine-then _ _ _ _ (sound w good call ok Checked f vs a s.Bool vars n b h)
       (λ v m p. let r = is-truth w v p in fine-given _ (truth v) r.0 m _ r.1
-      (fine-if _ r.0 _ _ (of-filled w (Truth true) f t s.Bool i tt)
+      (fine-if _ r.0 _ _ (value-of-filled w (Truth true) f t s.Bool i tt)
       (fine-then _ _ _ _ (sound w good call ok Checked f vs c s.Bool vars m b k)
-      (λ x l q. let y = is-truth w x q in fine-given _ (truth x) y.0 l _ y.1 (of-filled w (Truth y.0) f t s.Bool i tt)))))
+      (λ x l q. let y = is-truth w x q in fine-given _ (truth x) y.0 l _ y.1 (value-of-filled w (Truth y.0) f t s.Bool i tt)))))
   sound w good call ok way f vs (e.And at a c) t vars n b (i, h, k) =
       fine-then _ _ _ _ (sound w good call ok Checked f vs a s.Bool vars n b h)
       (λ v m p. let r = is-truth w v p in fine-given _ (truth v) r.0 m _ r.1
       (fine-if _ r.0 _ _
       (fine-then _ _ _ _ (sound w good call ok Checked f vs c s.Bool vars m b k)
-      (λ x l q. let y = is-truth w x q in fine-given _ (truth x) y.0 l _ y.1 (of-filled w (Truth y.0) f t s.Bool i tt)))
-      (of-filled w (Truth false) f t s.Bool i tt)))
+      (λ x l q. let y = is-truth w x q in fine-given _ (truth x) y.0 l _ y.1 (value-of-filled w (Truth y.0) f t s.Bool i tt)))
+      (value-of-filled w (Truth false) f t s.Bool i tt)))
   sound w good call ok way f vs (e.Calculate at a op c) t vars n b (i, h, k) =
       fine-then _ _ _ _ (sound w good call ok Checked f vs a s.Int vars n b h)
       (λ v m p. fine-then _ _ _ _ (sound w good call ok Checked f vs c s.Int vars m b k)
       (λ x l q. let r = is-int w v p in let y = is-int w x q in
-      fine-given _ (int v) r.0 l _ r.1 (fine-given _ (int x) y.0 l _ y.1 (of-filled w (Int (calculated op r.0 y.0)) f t s.Int i tt))))
+      fine-given _ (int v) r.0 l _ r.1 (fine-given _ (int x) y.0 l _ y.1 (value-of-filled w (Int (calculated op r.0 y.0)) f t s.Int i tt))))
   sound w good call ok way f vs (e.Negate at a) t vars n b (i, h) =
       fine-then _ _ _ _ (sound w good call ok Checked f vs a s.Int vars n b h)
-      (λ v m p. let r = is-int w v p in fine-given _ (int v) r.0 m _ r.1 (of-filled w (Int (int_wrapping_neg w64 r.0)) f t s.Int i tt))
+      (λ v m p. let r = is-int w v p in fine-given _ (int v) r.0 m _ r.1 (value-of-filled w (Int (int_wrapping_neg w64 r.0)) f t s.Int i tt))
   sound w good call ok way f vs (e.CodeOf at a) t vars n b (i, h) =
       fine-then _ _ _ _ (sound w good call ok Checked f vs a s.Char vars n b h)
-      (λ v m p. let r = is-char w v p in fine-given _ (char v) r.0 m _ r.1 (of-filled w (Int (pos r.0)) f t s.Int i tt))
+      (λ v m p. let r = is-char w v p in fine-given _ (char v) r.0 m _ r.1 (value-of-filled w (Int (pos r.0)) f t s.Int i tt))
   sound w good call ok way f vs (e.CharOf at a) t vars n b (i, h) =
       fine-then _ _ _ _ (sound w good call ok Checked f vs a s.Int vars n b h)
-      (λ v m p. let r = is-int w v p in fine-given _ (int v) r.0 m _ r.1 (of-filled w (Char (char_of r.0)) f t s.Char i tt))
+      (λ v m p. let r = is-int w v p in fine-given _ (int v) r.0 m _ r.1 (value-of-filled w (Char (char_of r.0)) f t s.Char i tt))
   sound w good call ok way f vs (e.Call at x args) t vars n b (fd, i, (ts, l, j, h, k)) =
       fine-then _ _ _ _ (sound-parts w good call ok f vs (filling (type_parameters fd) ts) _ fd.parameters args vars n b h)
       (λ us m p. call-fine w call ok f x fd ts us m t i l j p)
   sound w good call ok way f vs (e.Constructor at x args) t vars n b (d, y, c, i, (ts, l, j, h, k)) =
       fine-then _ _ _ _ (sound-parts w good call ok f vs (filling (names_of d.parameters) ts) _ c.parts args vars n b h)
       (λ us m p. fine-given _ (number_of w x) y m _ (ap (option_map number_in) i)
-      (fine-made _ (built y us) m (of-filled w (built y us) f t (filled (filling (names_of d.parameters) ts) (whole d)) j (built-is w good f x d y c ts us i l p))))
+      (fine-made _ (built y us) m (value-of-filled w (built y us) f t (filled (filling (names_of d.parameters) ts) (whole d)) j (built-is w good f x d y c ts us i l p))))
 
   -- the elements of a list
   sound-items : (w : World) → IsSoundWorld w → (call : Caller) → CallerIsSound w call → (f : Filling) (vs : Vars) (all : Exprs) (t : SeqType) (vars : Bindings) (n : ℕ)

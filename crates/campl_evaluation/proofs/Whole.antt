@@ -13,11 +13,11 @@ use Rattle.campl_types.specs.Sequential.{whole}
 use Rattle.campl_types.specs.Values.{parts_at, IsValue, AreValues, AllAreValues}
 use Rattle.campl_types.specs.World.{World, OfData, constructor_named, names_of, variables_of_list}
 use Rattle.campl_evaluation.specs.Worlds.{IsSoundWorld}
-use Rattle.campl_evaluation.proofs.Compose.{all-composed, list-composed, length-filled}
 use Rattle.campl_evaluation.proofs.Instance.{parts-of}
 use Rattle.campl_evaluation.proofs.Bound.{names-long}
 use Rattle.campl_types.proofs.Truth.{or-first}
 use Rattle.campl_types.proofs.Among.{within-left, within-right}
+use Rattle.campl_types.proofs.Compose.{all-composed, list-composed, length-filled}
 
 abbrev variables : List Name → SeqTypes
 variables xs = types_of (map (Variable nowhere) xs)

@@ -9,7 +9,7 @@ use Rattle.campl_first_path.specs.Start.{near, far, start}
 use Rattle.campl_first_path.specs.Ends.{transcript_of, Finished, HasProcess, IsBrokenAt}
 use Rattle.campl_first_path.specs.Journals.{Naming, NamesBoth, with_channel, naming_at_start}
 use Rattle.std.specs.Fmt.{digits}
-use Rattle.campl_first_path.specs.Output.{output_of, shown_text, shown_character}
+use Rattle.campl_first_path.specs.Output.{output_of}
 
 abbrev console : Name
 console = codes "console"
@@ -57,11 +57,6 @@ hello_printed : output_of ((console, Took (codes "Hello") ∷ (WasClosed ∷ [])
     ≡ codes "channel console" ++ (10 ∷ []) ++ codes "> Hello" ++ (10 ∷ []) ++ codes "closed" ++ (10 ∷ []) ++ codes "finished after 7 steps" ++ (10 ∷ [])
 unfolding digits lib.Utf8.encode
 hello_printed = refl
-
--- a backslash, a line feed, a bell and delete are escaped, and an accent isn't
-escapes_shown : shown_text (97 ∷ (92 ∷ (10 ∷ (7 ∷ (127 ∷ (233 ∷ [])))))) ≡ 97 ∷ (92 ∷ (92 ∷ (92 ∷ (110 ∷ (92 ∷ (117 ∷ (123 ∷ (55 ∷ (125 ∷ (92 ∷ (117 ∷ (123 ∷ (55 ∷ (102 ∷ (125 ∷ (195 ∷ (169 ∷ [])))))))))))))))))
-unfolding digits lib.Utf8.encode
-escapes_shown = refl
 
 -- at its start `run` is the process that is left
 run_is_left : HasProcess (start hello [])

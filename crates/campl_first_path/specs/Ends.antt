@@ -1,9 +1,8 @@
 -- How a run ends.
-use Rattle.std.specs.Prelude.{◌≡◌, ℕ, List, [], Option, Some, None}
+use Rattle.std.specs.Prelude.{◌≡◌, ℕ, [], Option, Some, None}
 use Rattle.campl_machine.specs.Names.{Path, Who, Process, Service}
 use Rattle.campl_machine.specs.Machine.{Act, Moves, Looks, Links, Stands, Breaks, performs}
 use Rattle.campl_first_path.specs.States.{State, Serves, Serving, Message, SendsLine, Transcript, Runs}
-use Rattle.campl_first_path.specs.Kinds.{Command}
 use Rattle.campl_first_path.specs.Reductions.{Configuration, Event, reduce, wants}
 
 -- some reduction may happen

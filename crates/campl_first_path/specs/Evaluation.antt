@@ -1,5 +1,5 @@
 -- The value of an expression.
-use Rattle.std.specs.Prelude.{ℕ, List, Bool, true, false, if◌then◌else◌, nat_le}
+use Rattle.std.specs.Prelude.{ℕ, List, if◌then◌else◌, nat_le}
 use Rattle.campl_value.specs.Tree.{Tree, depth_of}
 use Rattle.campl_value.specs.Text.{text_of}
 use Rattle.campl_value.specs.declared.value.TheConstants.{MAX_DEPTH}

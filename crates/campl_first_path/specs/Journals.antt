@@ -1,5 +1,5 @@
 -- Journals: reductions told by numbers, which are read by the names that the start and the entries before fix.
-use Rattle.std.specs.Prelude.{◌≡◌, ℕ, zero, suc, ◌+◌, ◌*◌, ◌/◌, ◌%◌, ◌≤◌, ◌⊎◌, Bool, true, false, List, [], ◌∷◌, Option, Some, None, if◌then◌else◌, eqb}
+use Rattle.std.specs.Prelude.{◌≡◌, ℕ, zero, suc, ◌+◌, ◌/◌, ◌%◌, ◌≤◌, ◌⊎◌, Bool, true, false, List, [], ◌∷◌, Option, Some, None, if◌then◌else◌, eqb}
 use Rattle.campl_value.specs.Tree.{Tree}
 use Rattle.campl_machine.specs.Names.{End, Who, Process, Service}
 use Rattle.campl_first_path.specs.Commands.{Source, ServiceChannel}

@@ -1,8 +1,8 @@
 -- The reductions: what the next command of a process or service does to a configuration.
-use Rattle.std.specs.Prelude.{◌≡◌, ℕ, suc, Bool, true, false, List, [], ◌∷◌, Option, Some, None, map, option_map, if◌then◌else◌}
-use Rattle.campl_machine.specs.Names.{End, Who, Process, Service}
-use Rattle.campl_machine.specs.Machine.{Config, Move, Act, Moves, Looks, Links, Stands, Breaks, performs}
-use Rattle.campl_first_path.specs.Commands.{Name, Expr, Action, Put, HPut, Last, Halt, Body, Then, Ends, constructor_number}
+use Rattle.std.specs.Prelude.{◌≡◌, ℕ, suc, List, [], ◌∷◌, Option, Some, None, map, option_map, if◌then◌else◌}
+use Rattle.campl_machine.specs.Names.{End, Who}
+use Rattle.campl_machine.specs.Machine.{Config, Act, Moves, Looks, Links, Stands, Breaks, performs}
+use Rattle.campl_first_path.specs.Commands.{Put, HPut, Halt, Body, Then, Ends, constructor_number}
 use Rattle.campl_first_path.specs.Evaluation.{Result, Done, Deep, Wrong, More, eval}
 use Rattle.campl_first_path.specs.States as s
 use Rattle.campl_first_path.specs.States.{Message, State, Runs, Serves, Running, Term, Doing, Held, held}

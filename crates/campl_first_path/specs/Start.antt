@@ -1,8 +1,8 @@
 -- The start of a source.
 use Rattle.std.specs.Prelude.{ℕ, suc, List, [], ◌∷◌, Option, Some, None}
 use Rattle.campl_machine.specs.Names.{End, First, Second, Half, Who, Process, Service, same_end, same_who}
-use Rattle.campl_machine.specs.Machine.{Config, update, both_ways}
-use Rattle.campl_first_path.specs.Commands.{Name, Body, Source, ServiceChannel}
+use Rattle.campl_machine.specs.Machine.{update, both_ways}
+use Rattle.campl_first_path.specs.Commands.{Source, ServiceChannel}
 use Rattle.campl_first_path.specs.States.{State, Runs, Serves, Doing, AwaitsPick, Held, Script}
 use Rattle.campl_first_path.specs.Reductions.{Configuration}
 

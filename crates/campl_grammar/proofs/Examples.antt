@@ -1,38 +1,35 @@
--- The grammar on a few lists of words.
-use Rattle.std.proofs.Common.{◌≡◌, refl, ℕ, List, [], ◌∷◌, Some, Ok, Err, codes}
+-- The grammar on a few lists of terminals.
+use Rattle.std.proofs.Common.{◌≡◌, refl, ℕ, List, [], ◌∷◌, Ok, Err, codes}
 use Rattle.std.specs.Prelude.{pos}
-use Rattle.campl_tree.specs.declared.decl.Program.{Program}
-use Rattle.campl_tree.specs.declared.decl.Decl.TheVariants as decl
 use Rattle.campl_tree.specs.declared.expr.Arithmetic.TheVariants as calculating
 use Rattle.campl_tree.specs.declared.expr.Expr.TheVariants as e
-use Rattle.campl_tree.specs.declared.pattern.Pattern.TheVariants as p
-use Rattle.campl_tree.specs.declared.types.SeqType.TheVariants as s
 use Rattle.campl_tree.specs.declared.place.Place.{Place}
 use Rattle.campl_gram.specs.declared.fault.Fault.TheVariants.{Unexpected, TooDeep}
 use Rattle.campl_gram.specs.Reading.{Outcome, read_below}
 use Rattle.campl_gram.specs.Reading as reading
 use Rattle.campl_gram.specs.Verdicts.{finish}
-use Rattle.campl_grammar.specs.declared.kind.Kind.{Kind}
-use Rattle.campl_grammar.specs.declared.kind.Kind.TheVariants as k
-use Rattle.campl_grammar.specs.Word.{Word, terminals, same, digits, text_of}
-use Rattle.campl_grammar.specs.Names.{Name, program, expr}
+use Rattle.campl_lex.specs.declared.token.TokenKind.{TokenKind}
+use Rattle.campl_lex.specs.declared.token.TokenKind.TheVariants as k
+use Rattle.campl_lex.specs.Kinds.{same}
+use Rattle.campl_grammar.specs.Terminal.{Terminal, terminals, digits}
+use Rattle.campl_grammar.specs.Names.{Name, expr}
 use Rattle.campl_grammar.specs.Tables.{tables}
-use Rattle.campl_grammar.specs.Rules.{Value, rule, read}
+use Rattle.campl_grammar.specs.Rules.{Value, rule}
 
--- a word of a kind and a text in a column of the first line
-abbrev word : Kind → List ℕ → ℕ → Word
+-- a terminal of a kind and a text in a column of the first line
+abbrev word : TokenKind → List ℕ → ℕ → Terminal
 word kind text column = record { kind = kind; text = text; place = record { line = 1; column = column } }
 
 -- one whose text says nothing
-abbrev mark : Kind → ℕ → Word
+abbrev mark : TokenKind → ℕ → Terminal
 mark kind column = word kind [] column
 
 -- what is answered for an expression under a limit
-abbrev answer : ℕ → List Word → Outcome Word (Value expr)
+abbrev answer : ℕ → List Terminal → Outcome Terminal (Value expr)
 answer limit words = finish (reading.read terminals Name Value tables limit rule expr 0 words)
 
 -- (1 + 2) * True
-abbrev product : List Word
+abbrev product : List Terminal
 product = mark k.LeftParen 1 ∷ word k.Number (codes "1") 2 ∷ mark k.Plus 4 ∷ word k.Number (codes "2") 6 ∷ mark k.RightParen 7 ∷ mark k.Star 9 ∷ mark k.True 11 ∷ []
 
 abbrev at_column : ℕ → Place

@@ -1,30 +1,31 @@
 -- The grammar passes the test, so its laws hold.
-use Rattle.std.proofs.Common.{◌≡◌, ℕ, ◌+◌, ◌≤◌, Bool, true, false, List, [], ◌∷◌, ◌++◌, length, Ok, Err, refl, sym, rules}
+use Rattle.std.proofs.Common.{◌≡◌, true, [], refl, rules}
 use denote.Enum.Bare.{same_true}
-use Rattle.std.specs.Cmp.Derive.{bare_equiv}
-use Rattle.campl_tree.specs.declared.decl.Program.{Program}
-use Rattle.campl_gram.specs.Grammar.{Nested, bare, Shallow}
-use Rattle.campl_gram.specs.Reading.{expect}
 use Rattle.campl_gram.specs.Tests.{Distinct, Passes}
 use Rattle.campl_gram.specs.OneKind.{distinct}
-use Rattle.campl_gram.specs.Verdicts.{finish, Answers}
-use Rattle.campl_gram.specs.Brackets.{RulesBalanced, Encloses}
-use Rattle.campl_gram.proofs.Exact as exact
-use Rattle.campl_grammar.specs.contracts.kind.Kind.{the_type}
-use Rattle.campl_grammar.specs.declared.kind.Kind.{Kind}
-use Rattle.campl_grammar.specs.declared.kind.Kind.TheVariants as k
-use Rattle.campl_grammar.specs.Word.{Word, same, terminals, nowhere}
-use Rattle.campl_grammar.specs.Names.{Name, program, decls, decl, data_decl, protocol_decl, coprotocol_decl, fun_decl, proc_decl, parameters, cons, con, pcons, pcon, qcons, qcon, rows, row, prow, vars, var, names, idents, stypes, stype, grouped_type, type_arguments, ctypes, ctype, catom, named_type, grouped_ctype, put_type, get_type, neg_type, body, actions, action, put, get, hput, split, close, last, halt, hcase, fork, plug, race, choice, named, identity, process_call, hrows, hrow, branches, branch, links, link, parts, part, crows, crow, patterns, pattern, patom, constructor_pattern, list_pattern, simple_pattern, grouped_pattern, exprs, expr, if_expr, erows, erow, disjunction, conjunction, cmp, comparison, joined, sum, terms, addition, prod, factors, multiplication, unary, atom, code, character, constructor, listed, simple, variable, grouped}
+use Rattle.campl_lex.specs.contracts.token.TokenKind.{the_type}
+use Rattle.campl_lex.specs.declared.token.TokenKind.{TokenKind}
+use Rattle.campl_lex.specs.declared.token.TokenKind.TheVariants as k
+use Rattle.campl_lex.specs.Kinds.{same}
+use Rattle.campl_grammar.specs.Terminal.{terminals, nowhere}
+use Rattle.campl_grammar.specs.Names.{program, decls, decl, data_decl, protocol_decl, coprotocol_decl, fun_decl, proc_decl, parameters, cons}
+use Rattle.campl_grammar.specs.Names.{con, pcons, pcon, qcons, qcon, rows, row, prow, vars, var, names, idents, stypes, stype, grouped_type}
+use Rattle.campl_grammar.specs.Names.{type_arguments, ctypes, ctype, catom, named_type, grouped_ctype, put_type, get_type, neg_type, body, actions}
+use Rattle.campl_grammar.specs.Names.{action, put, get, hput, split, close, last, halt, hcase, fork, plug, race, choice, named, identity}
+use Rattle.campl_grammar.specs.Names.{process_call, hrows, hrow, branches, branch, links, link, parts, part, crows, crow, patterns, pattern, patom}
+use Rattle.campl_grammar.specs.Names.{constructor_pattern, list_pattern, simple_pattern, grouped_pattern, exprs, expr, if_expr, erows, erow}
+use Rattle.campl_grammar.specs.Names.{disjunction, conjunction, cmp, comparison, joined, sum, terms, addition, prod, factors, multiplication, unary}
+use Rattle.campl_grammar.specs.Names.{atom, code, character, constructor, listed, simple, variable, grouped}
 use Rattle.campl_grammar.specs.Tables.{tables}
-use Rattle.campl_grammar.specs.Rules.{Value, rule, limit, IsProgram, read, piece}
+use Rattle.campl_grammar.specs.Rules.{rule}
 
 -- kinds that pass the test are equal
-same_is : (i j : Kind) → same i j ≡ true → i ≡ j
+same_is : (i j : TokenKind) → same i j ≡ true → i ≡ j
 unfolding same
 same_is i j e = same_true the_type (search rules) i j e
 
 -- a kind is the same as itself
-same_refl : (i : Kind) → same i i ≡ true
+same_refl : (i : TokenKind) → same i i ≡ true
 unfolding same
 same_refl k.Lower = refl
 same_refl k.Upper = refl
@@ -99,7 +100,7 @@ same_refl k.Plus = refl
 same_refl k.Minus = refl
 same_refl k.Star = refl
 same_refl k.Colon = refl
-same_refl k.Other = refl
+same_refl k.SingleEquals = refl
 
 -- the kinds are distinct
 pub distinct_kinds : Distinct terminals same

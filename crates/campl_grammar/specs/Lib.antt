@@ -1,4 +1,4 @@
-pub mod Word
+pub mod Terminal
 pub mod Names
 pub mod Trees
 pub mod Rules

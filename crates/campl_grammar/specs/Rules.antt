@@ -1,5 +1,5 @@
 -- The grammar of the language. Over each rule stands what it says in the usual notation: [ x ] for x or nothing.
-use Rattle.std.specs.Prelude.{ℕ, Bool, true, false, List, [], ◌∷◌, Option, Some, None, Ok}
+use Rattle.std.specs.Prelude.{ℕ, true, false, List, [], Some, None}
 use Rattle.campl_tree.specs.declared.place.Place.{Place}
 use Rattle.campl_tree.specs.declared.place.Ident.{Ident}
 use Rattle.campl_tree.specs.declared.types.SeqType.{SeqType}
@@ -39,12 +39,19 @@ use Rattle.campl_gram.specs.Grammar.{Piece, Nested, tok, pure, seq, alt, deeper,
 use Rattle.campl_gram.specs.Grammar as grammar
 use Rattle.campl_gram.specs.Reading.{Outcome}
 use Rattle.campl_gram.specs.Reading as reading
-use Rattle.campl_grammar.specs.declared.kind.Kind.{Kind}
-use Rattle.campl_grammar.specs.declared.kind.Kind.TheVariants as k
-use Rattle.campl_grammar.specs.Word.{Word, ident_of, terminals}
+use Rattle.campl_lex.specs.declared.token.TokenKind.{TokenKind}
+use Rattle.campl_lex.specs.declared.token.TokenKind.TheVariants as k
+use Rattle.campl_grammar.specs.Terminal.{Terminal, ident_of, terminals}
 use Rattle.campl_grammar.specs.Trees as t
 use Rattle.campl_grammar.specs.Tables.{tables}
-use Rattle.campl_grammar.specs.Names.{Name, program, decls, decl, data_decl, protocol_decl, coprotocol_decl, fun_decl, proc_decl, parameters, cons, con, pcons, pcon, qcons, qcon, rows, row, prow, vars, var, names, idents, stypes, stype, grouped_type, type_arguments, ctypes, ctype, catom, named_type, grouped_ctype, put_type, get_type, neg_type, body, actions, action, put, get, hput, split, close, last, halt, hcase, fork, plug, race, choice, named, identity, process_call, hrows, hrow, branches, branch, links, link, parts, part, crows, crow, patterns, pattern, patom, constructor_pattern, list_pattern, simple_pattern, grouped_pattern, exprs, expr, if_expr, erows, erow, disjunction, conjunction, cmp, comparison, joined, sum, terms, addition, prod, factors, multiplication, unary, atom, code, character, constructor, listed, simple, variable, grouped}
+use Rattle.campl_grammar.specs.Names.{Name, program, decls, decl, data_decl, protocol_decl, coprotocol_decl, fun_decl, proc_decl, parameters, cons}
+use Rattle.campl_grammar.specs.Names.{con, pcons, pcon, qcons, qcon, rows, row, prow, vars, var, names, idents, stypes, stype, grouped_type}
+use Rattle.campl_grammar.specs.Names.{type_arguments, ctypes, ctype, catom, named_type, grouped_ctype, put_type, get_type, neg_type, body, actions}
+use Rattle.campl_grammar.specs.Names.{action, put, get, hput, split, close, last, halt, hcase, fork, plug, race, choice, named, identity}
+use Rattle.campl_grammar.specs.Names.{process_call, hrows, hrow, branches, branch, links, link, parts, part, crows, crow, patterns, pattern, patom}
+use Rattle.campl_grammar.specs.Names.{constructor_pattern, list_pattern, simple_pattern, grouped_pattern, exprs, expr, if_expr, erows, erow}
+use Rattle.campl_grammar.specs.Names.{disjunction, conjunction, cmp, comparison, joined, sum, terms, addition, prod, factors, multiplication, unary}
+use Rattle.campl_grammar.specs.Names.{atom, code, character, constructor, listed, simple, variable, grouped}
 
 -- what the value of each name is
 abbrev pub Value : Name → Type 0
@@ -98,8 +105,8 @@ Value plug = Last
 Value race = Last
 Value choice = Last
 Value named = Last
-Value identity = Word → Last
-Value process_call = Word → Last
+Value identity = Terminal → Last
+Value process_call = Terminal → Last
 Value hrows = List HcaseRow
 Value hrow = HcaseRow
 Value branches = List Branch
@@ -145,7 +152,7 @@ Value grouped = Expr
 
 -- pieces of this grammar
 abbrev pub Part : Type 0 → Type 1
-Part = Piece Word Kind Place Name Value
+Part = Piece Terminal TokenKind Place Name Value
 
 -- ---- how one writes them
 
@@ -162,8 +169,8 @@ seq5 f a b c d e = into a (seq4 (λ y z u v x. f x y z u v) b c d e)
 abbrev pub seq6 : {A B C D E F G : Type 0} → (A → B → C → D → E → F → G) → Part A → Part B → Part C → Part D → Part E → Part F → Part G
 seq6 f a b c d e g = into a (seq5 (λ y z u v w x. f x y z u v w) b c d e g)
 
--- the value of a word of this kind
-abbrev pub gives : {A : Type 0} → Kind → A → Part A
+-- the value of a terminal of this kind
+abbrev pub gives : {A : Type 0} → TokenKind → A → Part A
 gives key x = (λ _. x) <$> tok key
 
 -- a list, or nothing
@@ -193,7 +200,7 @@ abbrev pub in_commas : {A : Type 0} → Part A → Part (List A) → Part (List 
 in_commas a more = grammar.list a (alt (k.Comma ▸ deeper more) (pure []))
 
 -- a [ OPERATOR b ], where b is nested one deeper
-abbrev pub chained : {A B : Type 0} → Part A → Kind → (B → A → Place → A) → Part B → Part A
+abbrev pub chained : {A B : Type 0} → Part A → TokenKind → (B → A → Place → A) → Part B → Part A
 chained a key f b = at (into a (alt (f <$> key ▸ deeper b) (pure t.alone)))
 
 -- lower, Upper
@@ -395,9 +402,9 @@ rule unary = alt (seq t.negate_of (tok k.Minus) (deeper (nt unary))) (nt atom)
 --      | Upper [ "(" expr { "," expr } ")" ] | "[" [ expr { "," expr } ] "]" | "(" expr [ "," expr ] ")"
 rule atom = alt (nt simple) (alt (nt variable) (alt (nt code) (alt (nt character) (alt (nt constructor) (alt (nt listed) (nt grouped))))))
 rule simple =
-    alt (t.number_of_word <$> tok k.Number)
-    (alt (t.character_of_word <$> tok k.Character)
-    (alt (t.text_of_word <$> tok k.Text)
+    alt (t.number_expr_of <$> tok k.Number)
+    (alt (t.character_expr_of <$> tok k.Character)
+    (alt (t.text_expr_of <$> tok k.Text)
     (alt (t.true_of <$> tok k.True)
     (t.false_of <$> tok k.False))))
 rule variable = into (tok k.Lower) (alt (t.call_of <$> in_parens some_exprs) (pure t.variable_expr_of))
@@ -413,14 +420,14 @@ rule grouped = at (in_parens (into (nt expr) (alt (t.pair_of <$> k.Comma ▸ dee
 abbrev pub limit : ℕ
 limit = 200
 
--- the words, with their nesting, have this tree
-unfoldable pub IsProgram : List (Nested Word) → Program → Type 0
+-- the terminals, with their nesting, have this tree
+unfoldable pub IsProgram : List (Nested Terminal) → Program → Type 0
 IsProgram = grammar.IsProgram terminals Name Value rule program
 
 -- reads a name, nested so deep
-unfoldable pub read : (m : Name) → ℕ → List Word → Outcome Word (Value m)
+unfoldable pub read : (m : Name) → ℕ → List Terminal → Outcome Terminal (Value m)
 read = reading.read terminals Name Value tables limit rule
 
 -- reads a piece
-abbrev pub piece : {A : Type 0} → Part A → ℕ → List Word → Outcome Word A
+abbrev pub piece : {A : Type 0} → Part A → ℕ → List Terminal → Outcome Terminal A
 piece = reading.read_by terminals Name Value tables limit read

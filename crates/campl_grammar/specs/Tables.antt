@@ -1,11 +1,18 @@
 -- What is known of each name beside its rule. A test that computes says that it is right.
 use Rattle.std.specs.Prelude.{ℕ, Bool, true, false, List, [], ◌∷◌}
 use Rattle.campl_gram.specs.Reading.{Tables}
-use Rattle.campl_grammar.specs.declared.kind.Kind.{Kind}
-use Rattle.campl_grammar.specs.declared.kind.Kind.TheVariants as k
-use Rattle.campl_grammar.specs.Names.{Name, program, decls, decl, data_decl, protocol_decl, coprotocol_decl, fun_decl, proc_decl, parameters, cons, con, pcons, pcon, qcons, qcon, rows, row, prow, vars, var, names, idents, stypes, stype, grouped_type, type_arguments, ctypes, ctype, catom, named_type, grouped_ctype, put_type, get_type, neg_type, body, actions, action, put, get, hput, split, close, last, halt, hcase, fork, plug, race, choice, named, identity, process_call, hrows, hrow, branches, branch, links, link, parts, part, crows, crow, patterns, pattern, patom, constructor_pattern, list_pattern, simple_pattern, grouped_pattern, exprs, expr, if_expr, erows, erow, disjunction, conjunction, cmp, comparison, joined, sum, terms, addition, prod, factors, multiplication, unary, atom, code, character, constructor, listed, simple, variable, grouped}
+use Rattle.campl_lex.specs.declared.token.TokenKind.{TokenKind}
+use Rattle.campl_lex.specs.declared.token.TokenKind.TheVariants as k
+use Rattle.campl_grammar.specs.Names.{Name, program, decls, decl, data_decl, protocol_decl, coprotocol_decl, fun_decl, proc_decl, parameters, cons}
+use Rattle.campl_grammar.specs.Names.{con, pcons, pcon, qcons, qcon, rows, row, prow, vars, var, names, idents, stypes, stype, grouped_type}
+use Rattle.campl_grammar.specs.Names.{type_arguments, ctypes, ctype, catom, named_type, grouped_ctype, put_type, get_type, neg_type, body, actions}
+use Rattle.campl_grammar.specs.Names.{action, put, get, hput, split, close, last, halt, hcase, fork, plug, race, choice, named, identity}
+use Rattle.campl_grammar.specs.Names.{process_call, hrows, hrow, branches, branch, links, link, parts, part, crows, crow, patterns, pattern, patom}
+use Rattle.campl_grammar.specs.Names.{constructor_pattern, list_pattern, simple_pattern, grouped_pattern, exprs, expr, if_expr, erows, erow}
+use Rattle.campl_grammar.specs.Names.{disjunction, conjunction, cmp, comparison, joined, sum, terms, addition, prod, factors, multiplication, unary}
+use Rattle.campl_grammar.specs.Names.{atom, code, character, constructor, listed, simple, variable, grouped}
 
--- which may have no word
+-- which may have no terminal
 abbrev pub nul : Name → Bool
 nul program = false
 nul decls = false
@@ -103,7 +110,7 @@ nul variable = false
 nul grouped = false
 
 -- with which kinds each may begin
-abbrev pub starts : Name → List Kind
+abbrev pub starts : Name → List TokenKind
 starts program = k.LeftBrace ∷ []
 starts decls = k.Data ∷ k.Protocol ∷ k.Coprotocol ∷ k.Fun ∷ k.Proc ∷ []
 starts decl = k.Data ∷ k.Protocol ∷ k.Coprotocol ∷ k.Fun ∷ k.Proc ∷ []
@@ -200,7 +207,7 @@ starts variable = k.Lower ∷ []
 starts grouped = k.LeftParen ∷ []
 
 -- with which kinds each could go on when it is over
-abbrev pub conts : Name → List Kind
+abbrev pub conts : Name → List TokenKind
 conts program = []
 conts decls = k.Semicolon ∷ []
 conts decl = []
@@ -491,5 +498,5 @@ tall variable = 0
 tall grouped = 12
 
 -- all of them
-abbrev pub tables : Tables Kind Name
+abbrev pub tables : Tables TokenKind Name
 tables = record { nul = nul; starts = starts; conts = conts; rank = rank; ranks = 11; tall = tall; talls = 37 }

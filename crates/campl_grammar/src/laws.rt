@@ -2,10 +2,10 @@
 ghost use Rattle.std.specs.Prelude.{◌≡◌, List};
 ghost use Rattle.campl_gram.specs.Grammar.{Nested, bare};
 ghost use Rattle.campl_tree.specs.declared.decl.Program.{Program};
-ghost use Rattle.campl_grammar.specs.Word.{Word};
+ghost use Rattle.campl_grammar.specs.Terminal.{Terminal};
 ghost use Rattle.campl_grammar.specs.Rules.{IsProgram};
 
-/// No list of words has two trees, however deep it nests.
+/// No list of terminals has two trees, however deep it nests.
 pub fn one_tree()
-    ensures { (w v : List (Nested Word)) (x y : Program) → IsProgram w x → IsProgram v y → bare w ≡ bare v → x ≡ y }
+    ensures { (w v : List (Nested Terminal)) (x y : Program) → IsProgram w x → IsProgram v y → bare w ≡ bare v → x ≡ y }
 {}

@@ -1,6 +1,6 @@
 //! The grammar of the language, as data: `specs/Rules.antt` has a rule for each name, with what it says in the usual
 //! notation over it, and each rule builds the trees of `campl_tree`. It passes the test of `campl_gram`, so no list of
-//! words has two trees, and a parser has one function for each name. A word is a token with its text (`specs/Word.antt`).
+//! terminals has two trees, and a parser has one function for each name. A terminal is a token with its text (`specs/Terminal.antt`).
 //!
 //! ```text
 //! -- link = lower "::" ctype
@@ -8,8 +8,6 @@
 //! ```
 #![tactic(auto)]
 
-mod kind;
 mod laws;
 
-pub use kind::Kind;
 pub use laws::one_tree;

@@ -13,11 +13,11 @@ use Rattle.campl_types.specs.Polarity.{Deed, Puts, Gets, Splits, Picks, Offers, 
 use Rattle.campl_types.specs.Views as v
 use Rattle.campl_types.specs.Views.{View, As, Nothing, turned, deed_of, side_of}
 use Rattle.campl_types.proofs.Turned.{view-turned, answered, deed-turned}
-use Rattle.campl_evaluation.proofs.Same.{of-same}
 use Rattle.campl_meaning.specs.States.{Message, Word, Pick, EndPair}
 use Rattle.campl_meaning.specs.Views.{view_of, taken_at, Takes, TakesAll}
 use Rattle.campl_types.specs.Values.{IsValue}
 use Rattle.campl_types.proofs.Bare.{deed-bare, puts-of, gets-of, picks-of, offers-of}
+use Rattle.campl_types.proofs.SameValue.{value-of-same}
 
 -- a channel at which anything may be done but an identity is its own view
 pub plain : (w : World) (s : Side) (u : ChanType) → deed w s u ≢ IsLinked → view_of s u ≡ As s (bare_chan u)
@@ -130,7 +130,7 @@ module _ (w : World) (s : Side) (u : ChanType) where
       let (r, x, j, p, q) = bare-puts t y i in
       subst (λ z. Takes w (turned z) (Word a) (turned (view_of s y))) (sym (plain w s u (λ k. cc (i, k))))
       (by-deed w (opposite s) (bare_chan u) (Gets r x) (Word a) (turned (view_of s y)) (deed-turned w s (bare_chan u) ∙ ap answered j)
-      (of-same w a t r (sym p) h, view-opposite s y x (sym q)))
+      (value-of-same w a t r (sym p) h, view-opposite s y x (sym q)))
 
   -- and what is taken is a value
   pub word-taken : (t : SeqType) (y : ChanType) (m : Message) (n : View) → deed w s u ≡ Gets t y → Takes w (view_of s u) m n → (a : Tree) × (m ≡ Word a) × IsValue w a t × (n ≡ view_of s y)
@@ -139,7 +139,7 @@ module _ (w : World) (s : Side) (u : ChanType) where
       go r x p q m (of-deed w s (bare_chan u) (Gets r x) m n j (subst (λ z. Takes w z m n) (plain w s u (λ k. cc (i, k))) h))
     where
       go : (r : SeqType) (x : ChanType) → bare r ≡ bare t → bare_chan x ≡ bare_chan y → (m : Message) → taken_at w s (Gets r x) m n → (a : Tree) × (m ≡ Word a) × IsValue w a t × (n ≡ view_of s y)
-      go r x p q (Word a) (g, e) = (a, refl, of-same w a r t p g, e ∙ ap (v.view_of s) q)
+      go r x p q (Word a) (g, e) = (a, refl, value-of-same w a r t p g, e ∙ ap (v.view_of s) q)
       go r x p q (Pick k) g = absurd g
       go r x p q (EndPair e f) g = absurd g
 

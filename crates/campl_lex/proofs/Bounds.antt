@@ -1,19 +1,20 @@
 -- A piece has some characters, and no more than the text.
-use Rattle.std.proofs.Common.{◌≡◌, ℕ, zero, suc, ◌+◌, ◌<◌, ◌≤◌, Bool, true, false, cond, eqb, nat_lt, nat_le, not, ◌==◌, List, [], ◌∷◌, length, take, Result, Ok, Err, IfOk, Some, refl, sym, subst, ap, ◌∙◌, arith, length-take, length-append}
+use Rattle.std.proofs.Common.{◌≡◌, ℕ, zero, suc, ◌+◌, ◌<◌, ◌≤◌, Bool, true, false, cond, eqb, nat_lt, nat_le, not, ◌==◌, List, [], ◌∷◌, length, take}
+use Rattle.std.proofs.Common.{Result, Ok, Err, IfOk, Some, refl, sym, subst, ap, ◌∙◌, arith, length-take, length-append}
 use Rattle.std.specs.List.{prefix_len}
 use Rattle.std.specs.Char.{is_ascii_digit}
 use Rattle.std.proofs.lemmas.Bool.Decides.{nat_tests}
 use Rattle.std.proofs.lemmas.List.Sums.{prefix_len-le-length}
 use Rattle.campl_tree.specs.declared.place.Place.{Place}
 use Rattle.campl_lex.specs.Limits.{longest_name, longest_text, greatest_number}
-use Rattle.campl_lex.specs.declared.token.TokenKind.TheVariants.{Number, Text, Character, Symbol}
+use Rattle.campl_lex.specs.declared.token.TokenKind.TheVariants.{Number, Text, Character}
 use Rattle.campl_lex.specs.declared.literal.Stop.{Stop}
 use Rattle.campl_lex.specs.declared.literal.Stop.TheVariants as stop
 use Rattle.campl_lex.specs.declared.literal.Body.{Body}
 use Rattle.campl_lex.specs.declared.piece.Piece.{Piece}
 use Rattle.campl_lex.specs.declared.fault.LexFault.{LexFault}
 use Rattle.campl_lex.specs.declared.fault.LexFault.TheVariants.{BadCharacter, OpenString, NumberTooLarge, NameTooLong, Tab, TextTooLong}
-use Rattle.campl_lex.specs.Spelling.{begins_name, goes_on, number_of, name_kind}
+use Rattle.campl_lex.specs.Spelling.{begins_name, goes_on, number_of, name_kind, symbol_kind}
 use Rattle.campl_lex.specs.Tokens.{is_white, begins_comment, is_quote}
 use Rattle.campl_lex.specs.Reading.{piece, blank, name_piece, number_piece, literal, literal_by, closed_literal, symbol_piece, symbol_len, scan}
 use Rattle.campl_lex.proofs.Scanning.{scan_closed}
@@ -69,10 +70,10 @@ symbol_within c cs = by (symbol_len c cs) refl
         let l : suc (length cs) ≡ length f.0 + length f.1 = ap length f.2 ∙ length-append f.0 f.1 in
         omega (arith, f.3)
 
-symbol_bounded : (p : Place) (c : ℕ) (cs : List ℕ) → Bounded (suc (length cs)) (symbol_piece p c cs)
+symbol_bounded : (p : Place) (c : ℕ) (cs : List ℕ) → Bounded (suc (length cs)) (symbol_piece p (c ∷ cs))
 symbol_bounded p c cs = by (symbol_len c cs) (symbol_within c cs) (eqb (symbol_len c cs) 0) refl
   where
-    by : (n : ℕ) → n ≤ suc (length cs) → (b : Bool) → eqb n 0 ≡ b → Bounded (suc (length cs)) (cond b (Err (BadCharacter p)) (Ok (record { kind = Some Symbol; length = n })))
+    by : (n : ℕ) → n ≤ suc (length cs) → (b : Bool) → eqb n 0 ≡ b → Bounded (suc (length cs)) (cond b (Err (BadCharacter p)) (Ok (record { kind = Some (symbol_kind (take n (c ∷ cs))); length = n })))
     by n h true e = tt
     by n h false e = (let k : 0 < n = grind (arith, nat_tests) in k, h)
 
@@ -88,7 +89,7 @@ piece_bounded p (c ∷ cs) = by (eqb c 9) (is_white c cs) (begins_comment (c ∷
         → Bounded (suc (length cs))
         (cond t (Err (Tab p)) (cond w (Ok (blank 1)) (cond m (Ok (blank (prefix_len (λ x. not (x == 10)) cs + 1)))
         (cond n (name_piece p (c ∷ take (prefix_len goes_on cs) cs)) (cond d (number_piece p (c ∷ take (prefix_len is_ascii_digit cs) cs))
-        (cond q (literal p c cs) (symbol_piece p c cs)))))))
+        (cond q (literal p c cs) (symbol_piece p (c ∷ cs))))))))
     by true w m n d q = tt
     by false true m n d q = (omega arith, omega arith)
     by false false true n d q = (omega arith, omega (arith, prefix_len-le-length (λ x. not (x == 10)) cs))

@@ -7,7 +7,8 @@ use Rattle.campl_lex.specs.Spelling.{begins_name, goes_on, is_name, is_number, i
 use Rattle.campl_lex.specs.Literal.{Spells}
 use Rattle.campl_lex.specs.Tokens.{begins_with, is_quote, is_white, IsSpelling}
 use Rattle.campl_lex.specs.Tokens as spelling
-use Rattle.campl_lex.proofs.Classes.{no_name, digit_no_name, begins_symbol, symbol_first, symbol_begins_no_name, symbol_begins_no_digit, symbol_begins_no_quote}
+use Rattle.campl_lex.proofs.Classes.{no_name, digit_no_name, begins_symbol, symbol_first, symbol_begins_no_name, symbol_begins_no_digit}
+use Rattle.campl_lex.proofs.Classes.{symbol_begins_no_quote}
 
 pub first_of_two : (a b : Bool) → (a && b) ≡ true → a ≡ true
 first_of_two true b h = refl

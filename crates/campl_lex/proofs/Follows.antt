@@ -24,16 +24,16 @@ follow_onto out (Err fault) t rest out' stack' e = cc
 
 -- one token of the layout
 pub laid_step : (text : List ℕ) (end : Place) (stack : List Enclosure) (last : Option Token) (t : Token) (ts : List Token) (out out' : List Token) (stack' : List Enclosure)
-    → onto out (before text last t stack) ≡ Ok (out', stack')
-    → adds out (laid text end stack last (t ∷ ts)) ≡ adds (out' ++ t ∷ []) (laid text end (behind text t stack') (Some t) ts)
+    → onto out (before last t stack) ≡ Ok (out', stack')
+    → adds out (laid text end stack last (t ∷ ts)) ≡ adds (out' ++ t ∷ []) (laid text end (behind t stack') (Some t) ts)
 unfolding laid
-laid_step text end stack last t ts out out' stack' e = follow_onto out (before text last t stack) t (λ s. laid text end (behind text t s) (Some t) ts) out' stack' e
+laid_step text end stack last t ts out out' stack' e = follow_onto out (before last t stack) t (λ s. laid text end (behind t s) (Some t) ts) out' stack' e
 
 -- a token at which the layout fails
 pub laid_stop : (text : List ℕ) (end : Place) (stack : List Enclosure) (last : Option Token) (t : Token) (ts : List Token) (fault : LexFault)
-    → before text last t stack ≡ Err fault → laid text end stack last (t ∷ ts) ≡ Err fault
+    → before last t stack ≡ Err fault → laid text end stack last (t ∷ ts) ≡ Err fault
 unfolding laid
-laid_stop text end stack last t ts fault e = ap (λ p. follow p t (λ s. laid text end (behind text t s) (Some t) ts)) e
+laid_stop text end stack last t ts fault e = ap (λ p. follow p t (λ s. laid text end (behind t s) (Some t) ts)) e
 
 pub adds_fails : (front : List Token) (rest : Result (List Token) LexFault) (fault : LexFault) → adds front rest ≡ Err fault → rest ≡ Err fault
 adds_fails front (Ok ts) fault e = cc
@@ -42,8 +42,8 @@ adds_fails front (Err f) fault e = e
 module _ (text : List ℕ) (tokens : List Token) (i : ℕ) (d : Token) (here : i < length tokens) (stack : List Enclosure) (last : Option Token) (out : List Token) where
   -- what is wanted of all tokens, behind one more of them
   pub goes_on : (end : Place) (out' : List Token) (stack' : List Enclosure)
-      → onto out (before text last (get_or tokens i d) stack) ≡ Ok (out', stack')
-      → adds (out' ++ get_or tokens i d ∷ []) (laid text end (behind text (get_or tokens i d) stack') (Some (get_or tokens i d)) (drop (i + 1) tokens))
+      → onto out (before last (get_or tokens i d) stack) ≡ Ok (out', stack')
+      → adds (out' ++ get_or tokens i d ∷ []) (laid text end (behind (get_or tokens i d) stack') (Some (get_or tokens i d)) (drop (i + 1) tokens))
       ≡ adds out (laid text end stack last (drop i tokens))
   goes_on end out' stack' e =
       sym (laid_step text end stack last (get_or tokens i d) (drop (i + 1) tokens) out out' stack' e)
@@ -51,7 +51,7 @@ module _ (text : List ℕ) (tokens : List Token) (i : ℕ) (d : Token) (here : i
 
   -- the fault of all tokens is that of this one
   pub fails_here : (end : Place) (front : List Token) (whole : Result (List Token) LexFault) (fault : LexFault)
-      → before text last (get_or tokens i d) stack ≡ Err fault
+      → before last (get_or tokens i d) stack ≡ Err fault
       → adds out (laid text end stack last (drop i tokens)) ≡ adds front whole
       → whole ≡ Err fault
   fails_here end front whole fault e same =

@@ -10,6 +10,8 @@ pub mod Symbols
 pub mod Lexing
 pub mod Spots
 pub mod Escapes
+pub mod Braced
+pub mod Found
 pub mod Families
 pub mod Literals
 pub mod Stands

@@ -1,5 +1,6 @@
 -- What the relation says of the front of a text is what the function says.
-use Rattle.std.proofs.Common.{◌≡◌, ℕ, zero, suc, ◌+◌, ◌≤◌, Bool, true, false, cond, not, ◌&&◌, eqb, nat_lt, nat_le, List, [], ◌∷◌, ◌++◌, length, take, drop, Some, Ok, Err, refl, sym, ap, ◌∙◌, subst, arith, append_assoc}
+use Rattle.std.proofs.Common.{◌≡◌, ℕ, zero, suc, ◌+◌, ◌≤◌, Bool, true, false, cond, not, ◌&&◌, eqb, nat_lt, nat_le, List, [], ◌∷◌, ◌++◌, length, take}
+use Rattle.std.proofs.Common.{drop, Some, Ok, Err, refl, sym, ap, ◌∙◌, subst, arith, append_assoc}
 use Rattle.std.specs.List.{prefix_len, list_all}
 use Rattle.std.specs.Char.{is_ascii_digit}
 use Rattle.std.proofs.lemmas.Bool.Decides.{nat_tests}
@@ -11,14 +12,16 @@ use Rattle.campl_lex.specs.declared.token.TokenKind.TheVariants as kind
 use Rattle.campl_lex.specs.declared.literal.Stop.TheVariants as stop
 use Rattle.campl_lex.specs.declared.fault.LexFault.{LexFault}
 use Rattle.campl_lex.specs.declared.fault.LexFault.TheVariants.{BadCharacter, OpenString, BadEscape, NumberTooLarge, NameTooLong, Tab, TextTooLong}
-use Rattle.campl_lex.specs.Spelling.{begins_name, goes_on, number_of, name_kind, kind_of}
+use Rattle.campl_lex.specs.Spelling.{begins_name, goes_on, number_of, name_kind, symbol_kind, kind_of}
 use Rattle.campl_lex.specs.Literal.{Spells}
-use Rattle.campl_lex.specs.Tokens.{is_white, begins_comment, begins_with, ends_line, is_quote, IsBlank, IsSpelling, IsLongest, IsWithinLimits, IsToken, Offends}
+use Rattle.campl_lex.specs.Tokens.{is_white, begins_comment, begins_with, ends_line, is_quote, IsBlank, IsSpelling, IsLongest, IsWithinLimits}
+use Rattle.campl_lex.specs.Tokens.{IsToken, Offends}
 use Rattle.campl_lex.specs.Tokens as says
 use Rattle.campl_lex.specs.Reading.{piece, blank, name_piece, number_piece, literal, closed_literal, symbol_len, escape_len}
 use Rattle.campl_lex.proofs.Runs.{run_passes, run_longest, run_before, run_whole}
 use Rattle.campl_lex.proofs.Classes.{no_name, digit_no_name}
-use Rattle.campl_lex.proofs.Families.{name_first, number_first, quote_no_name, some_spelled, spelled_name, spelled_number, spelled_symbol, spelled_literal, spelled_no_blank}
+use Rattle.campl_lex.proofs.Families.{name_first, number_first, quote_no_name, some_spelled, spelled_name, spelled_number, spelled_symbol}
+use Rattle.campl_lex.proofs.Families.{spelled_literal, spelled_no_blank}
 use Rattle.campl_lex.proofs.Symbols.{symbol_longest, symbol_found}
 use Rattle.campl_lex.proofs.Pieces.{piece_tab, piece_white, piece_comment, piece_name, piece_number, piece_literal, piece_symbol}
 use Rattle.campl_lex.proofs.Escapes.{escape_found}
@@ -152,8 +155,10 @@ token_only p (c ∷ w) rest t = by (begins_name c) refl (is_ascii_digit c) refl 
     by false n false e false f =
         let nb = spelled_no_blank c w t.longest.spelled in
         piece_symbol p c (w ++ rest) nb.0 (nb.1 (w ++ rest)) t.no_comment n e f
-        ∙ ap (λ m. cond (eqb m 0) (Err (BadCharacter p)) (Ok (record { kind = Some kind.Symbol; length = m }))) (symbol_run p c w rest t.longest n e f)
-        ∙ ap (λ x. cond x (Err (BadCharacter p)) (Ok (record { kind = Some kind.Symbol; length = length (c ∷ w) }))) (let z : eqb (suc (length w)) 0 ≡ false = grind (arith, nat_tests) in z)
+        ∙ ap (λ m. cond (eqb m 0) (Err (BadCharacter p)) (Ok (record { kind = Some (symbol_kind (take m (c ∷ (w ++ rest)))); length = m }))) (symbol_run p c w rest t.longest n e f)
+        ∙ ap (λ x. cond x (Err (BadCharacter p)) (Ok (record { kind = Some (symbol_kind (take (length (c ∷ w)) (c ∷ (w ++ rest)))); length = length (c ∷ w) })))
+        (let z : eqb (suc (length w)) 0 ≡ false = grind (arith, nat_tests) in z)
+        ∙ ap (λ x. Ok (record { kind = Some (symbol_kind x); length = length (c ∷ w) })) (take_at (c ∷ w) rest (length (c ∷ w)) refl)
         ∙ ap (λ k. Ok (record { kind = Some k; length = length (c ∷ w) })) (sym (kind_symbol c w n e f))
 
 no_comment_at : (p : ℕ → Bool) (c : ℕ) (x : List ℕ) → p c ≡ true → p 45 ≡ false → begins_comment (c ∷ x) ≡ false
@@ -176,7 +181,7 @@ offends_only p text fault (says.bad_character c rest t q w m none) =
     let b : begins_name c ≡ false = is_false (begins_name c) (λ h. none (c ∷ []) rest refl (says.name (both (begins_name c) true h refl))) in
     let d : is_ascii_digit c ≡ false = is_false (is_ascii_digit c) (λ h. none (c ∷ []) rest refl (says.number (both (is_ascii_digit c) true h refl))) in
     piece_symbol p c rest t w m b d q
-    ∙ ap (λ n. cond (eqb n 0) (Err (BadCharacter p)) (Ok (record { kind = Some kind.Symbol; length = n }))) (none_found c rest none)
+    ∙ ap (λ n. cond (eqb n 0) (Err (BadCharacter p)) (Ok (record { kind = Some (symbol_kind (take n (c ∷ rest))); length = n }))) (none_found c rest none)
 offends_only p text fault (says.tab rest) = piece_tab p 9 rest refl
 offends_only p text fault (says.tab_within q w cs rest h s) =
     quoted_piece p q (w ++ 9 ∷ rest) h ∙ literal_is p q (9 ∷ rest) stop.Tab h s refl ∙ ap (λ z. Err (Tab z)) (sym (spells_right p q h s))

@@ -1,5 +1,6 @@
 -- What the first character tells of a piece.
-use Rattle.std.proofs.Common.{◌≡◌, ℕ, ◌+◌, ◌<◌, true, false, not, ◌==◌, List, [], ◌∷◌, length, take, drop, get_or, Ok, Err, refl, sym, ap, ◌∙◌, arith, add-one}
+use Rattle.std.proofs.Common.{◌≡◌, ℕ, ◌+◌, ◌<◌, true, false, not, ◌==◌, List, [], ◌∷◌, length, take, drop, get_or, Ok, Err, refl, sym, ap, ◌∙◌, arith}
+use Rattle.std.proofs.Common.{add-one}
 use Rattle.std.specs.List.{prefix_len}
 use Rattle.std.specs.Char.{is_ascii_digit}
 use Rattle.campl_tree.specs.declared.place.Place.{Place}
@@ -41,7 +42,7 @@ module _ (p : Place) (c : ℕ) (cs : List ℕ) where
   piece_literal t w m n d q = rw (t, w, m, n, d, q) refl
 
   pub piece_symbol : (c == 9) ≡ false → is_white c cs ≡ false → begins_comment (c ∷ cs) ≡ false → begins_name c ≡ false → is_ascii_digit c ≡ false → is_quote c ≡ false
-      → piece p (c ∷ cs) ≡ symbol_piece p c cs
+      → piece p (c ∷ cs) ≡ symbol_piece p (c ∷ cs)
   unfolding piece
   piece_symbol t w m n d q = rw (t, w, m, n, d, q) refl
 

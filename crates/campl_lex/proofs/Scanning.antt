@@ -1,5 +1,6 @@
 -- How a literal is scanned, one character after another.
-use Rattle.std.proofs.Common.{◌≡◌, ℕ, zero, suc, ◌+◌, ◌<◌, ◌≤◌, Bool, true, false, cond, ◌&&◌, eqb, List, [], ◌∷◌, length, drop, take, get_or, Option, Some, None, is_some, refl, sym, ap, ◌∙◌, arith, zero-add, add_assoc, add-one, one-add, add_comm, nat_le}
+use Rattle.std.proofs.Common.{◌≡◌, ℕ, zero, suc, ◌+◌, ◌<◌, ◌≤◌, Bool, true, false, cond, ◌&&◌, eqb, List, [], ◌∷◌, length, drop, take, get_or, Option}
+use Rattle.std.proofs.Common.{Some, None, refl, sym, ap, ◌∙◌, arith, zero-add, add_assoc, add-one, one-add, add_comm, nat_le}
 use Rattle.std.specs.List.{prefix_len}
 use Rattle.std.proofs.lemmas.Bool.Decides.{nat_tests}
 use Rattle.std.proofs.lemmas.List.{get_or_past, drop-drop}
@@ -9,7 +10,8 @@ use Rattle.campl_lex.specs.declared.literal.Stop.{Stop}
 use Rattle.campl_lex.specs.declared.literal.Stop.TheVariants as stop
 use Rattle.campl_lex.specs.declared.literal.Body.{Body}
 use Rattle.campl_lex.specs.Literal.{short_escape, is_hex_digit, hex_value}
-use Rattle.campl_lex.specs.Reading.{braced_len, unicode_len, escape_len, tail_len, item_len, stop_of, stopped, longer, scan}
+use Rattle.campl_lex.specs.Meaning.{braced, unicode, short_or}
+use Rattle.campl_lex.specs.Reading.{length_of, escape_len, tail_len, item_len, stop_of, stopped, longer, scan}
 
 pub longer_none : (b : Body) → longer 0 0 b ≡ b
 longer_none b = simp zero-add
@@ -17,32 +19,32 @@ longer_none b = simp zero-add
 pub longer_longer : (l k m n : ℕ) (b : Body) → longer l k (longer m n b) ≡ longer (l + m) (k + n) b
 longer_longer l k m n b = simp add_assoc
 
-pub braced_within : (n : ℕ) (cs : List ℕ) → n ≤ length cs → braced_len n cs ≤ length cs + 2
+braced_within : (n : ℕ) (cs : List ℕ) → n ≤ length cs → length_of (braced n cs) ≤ length cs + 2
 braced_within n cs h = by (nat_le 1 n) (nat_le n 6) (eqb (get_or cs n 0) 125) (scalar (hex_value (take n cs))) (grind (arith, nat_tests, get_or_past))
   where
-    by : (a b c d : Bool) → (c ≡ true → n < length cs) → cond (a && b && c && d) (n + 3) 0 ≤ length cs + 2
+    by : (a b c d : Bool) → (c ≡ true → n < length cs) → length_of (cond (a && b && c && d) (Some (hex_value (take n cs), n + 3)) None) ≤ length cs + 2
     by true true true true k = let l : n < length cs = k refl in omega arith
     by true true true false k = omega arith
     by true true false d k = omega arith
     by true false c d k = omega arith
     by false b c d k = omega arith
 
-unicode_within : (cs : List ℕ) → unicode_len cs ≤ length cs + 1
+unicode_within : (cs : List ℕ) → length_of (unicode cs) ≤ length cs + 1
 unicode_within [] = omega arith
 unicode_within (c ∷ cs) = by (eqb c 123)
   where
-    by : (b : Bool) → cond b (braced_len (prefix_len is_hex_digit cs) cs) 0 ≤ length (c ∷ cs) + 1
+    by : (b : Bool) → length_of (cond b (braced (prefix_len is_hex_digit cs) cs) None) ≤ length (c ∷ cs) + 1
     by true = omega (arith, braced_within (prefix_len is_hex_digit cs) cs (prefix_len-le-length is_hex_digit cs))
     by false = omega arith
 
-escape_within : (cs : List ℕ) → escape_len cs ≤ length cs
+pub escape_within : (cs : List ℕ) → escape_len cs ≤ length cs
 escape_within [] = omega arith
-escape_within (c ∷ cs) = by (is_some (short_escape c)) (eqb c 117)
+escape_within (c ∷ cs) = by (short_escape c) (eqb c 117)
   where
-    by : (a b : Bool) → cond a 1 (cond b (unicode_len cs) 0) ≤ length (c ∷ cs)
-    by true b = omega arith
-    by false true = omega (arith, unicode_within cs)
-    by false false = omega arith
+    by : (o : Option ℕ) (b : Bool) → length_of (short_or o (cond b (unicode cs) None)) ≤ length (c ∷ cs)
+    by (Some x) b = omega arith
+    by None true = omega (arith, unicode_within cs)
+    by None false = omega arith
 
 pub tail_within : (c : ℕ) (cs : List ℕ) → tail_len c cs ≤ length cs
 tail_within c cs = by (eqb c 92)

@@ -1,5 +1,6 @@
 -- What stands at the front of a text is what the function says.
-use Rattle.std.proofs.Common.{◌≡◌, ℕ, suc, ◌+◌, Bool, true, false, not, ◌&&◌, ◌==◌, eqb, List, [], ◌∷◌, length, take, drop, None, refl, sym, ap, subst, arith}
+use Rattle.std.proofs.Common.{◌≡◌, ℕ, suc, ◌+◌, Bool, true, false, not, ◌&&◌, ◌==◌, eqb, List, [], ◌∷◌, length, take, drop, None, refl, sym, ap}
+use Rattle.std.proofs.Common.{subst, arith}
 use Rattle.std.specs.List.{prefix_len}
 use Rattle.std.specs.Char.{is_ascii_digit}
 use Rattle.std.proofs.lemmas.Bool.Decides.{nat_tests}
@@ -8,7 +9,8 @@ use Rattle.std.proofs.lemmas.List.Sums.{prefix_len-le-length}
 use Rattle.campl_tree.specs.declared.place.Place.{Place}
 use Rattle.campl_lex.specs.declared.fault.LexFault.TheVariants.{Tab}
 use Rattle.campl_lex.specs.Spelling.{begins_name, goes_on}
-use Rattle.campl_lex.specs.Tokens.{is_white, begins_comment, begins_with, ends_line, is_quote, IsBlank, IsSpelling, IsLongest, IsWithinLimits, IsToken, Offends}
+use Rattle.campl_lex.specs.Tokens.{is_white, begins_comment, begins_with, ends_line, is_quote, IsBlank, IsSpelling, IsLongest, IsWithinLimits}
+use Rattle.campl_lex.specs.Tokens.{IsToken, Offends}
 use Rattle.campl_lex.specs.Tokens as says
 use Rattle.campl_lex.specs.Reading.{piece}
 use Rattle.campl_lex.proofs.Runs.{run_passes, run_stops}

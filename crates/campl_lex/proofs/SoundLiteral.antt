@@ -1,5 +1,6 @@
 -- What a literal at the front of a text is.
-use Rattle.std.proofs.Common.{◌≡◌, ℕ, suc, ◌+◌, ◌<◌, ◌≤◌, Bool, true, false, cond, not, ◌&&◌, ◌||◌, ◌==◌, eqb, nat_lt, List, [], ◌∷◌, ◌++◌, length, Some, None, Ok, Err, refl, sym, ap, ◌∙◌, subst, arith, append_assoc, length-append, add-one, add-zero, add_assoc}
+use Rattle.std.proofs.Common.{◌≡◌, ℕ, suc, ◌+◌, ◌<◌, ◌≤◌, Bool, true, false, cond, not, ◌&&◌, ◌||◌, ◌==◌, eqb, nat_lt, List, [], ◌∷◌, ◌++◌, length}
+use Rattle.std.proofs.Common.{Some, None, Ok, Err, refl, sym, ap, ◌∙◌, subst, arith, append_assoc, length-append, add-one, add-zero, add_assoc}
 use Rattle.std.specs.List.{list_all}
 use Rattle.std.specs.Char.{is_ascii_digit}
 use Rattle.std.proofs.lemmas.Bool.Decides.{nat_tests}
@@ -13,7 +14,8 @@ use Rattle.campl_lex.specs.declared.fault.LexFault.TheVariants.{OpenString, BadE
 use Rattle.campl_lex.specs.Spot.{place_past}
 use Rattle.campl_lex.specs.Spelling.{begins_name}
 use Rattle.campl_lex.specs.Literal.{IsEscape, Spells}
-use Rattle.campl_lex.specs.Tokens.{is_white, begins_comment, begins_with, ends_line, is_quote, IsBlank, IsSpelling, IsLongest, IsWithinLimits, IsToken, Offends}
+use Rattle.campl_lex.specs.Tokens.{is_white, begins_comment, begins_with, ends_line, is_quote, IsBlank, IsSpelling, IsLongest, IsWithinLimits}
+use Rattle.campl_lex.specs.Tokens.{IsToken, Offends}
 use Rattle.campl_lex.specs.Tokens as says
 use Rattle.campl_lex.specs.Reading.{literal, literal_by, closed_literal, scan, right, stop_of, escape_len}
 use Rattle.campl_lex.proofs.Families.{name_first, number_first, quote_no_name}

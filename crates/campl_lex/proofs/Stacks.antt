@@ -1,5 +1,6 @@
 -- Closing the topmost blocks, one after another.
-use Rattle.std.proofs.Common.{◌≡◌, ℕ, suc, ◌+◌, Bool, true, false, List, [], ◌∷◌, length, drop, slice_get, refl, ap, arith, append_assoc, ◌++◌, replicate, Some, None, sym, ◌∙◌}
+use Rattle.std.proofs.Common.{◌≡◌, ℕ, suc, ◌+◌, Bool, true, false, List, [], ◌∷◌, length, drop, slice_get, refl, ap, arith, append_assoc, ◌++◌}
+use Rattle.std.proofs.Common.{replicate, Some, None, sym, ◌∙◌}
 use Rattle.std.specs.List.{prefix_len}
 use Rattle.campl_lex.specs.declared.stack.Enclosure.{Enclosure}
 use Rattle.campl_lex.specs.Enclosure.{tops, block_count}

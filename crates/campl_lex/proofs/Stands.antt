@@ -1,9 +1,10 @@
 -- What stands at the front of a text is what the relation says of it.
-use Rattle.std.proofs.Common.{◌≡◌, ℕ, zero, suc, ◌<◌, ◌≤◌, Bool, true, false, cond, ◌&&◌, ◌||◌, ◌==◌, eqb, nat_lt, nat_le, List, [], ◌∷◌, ◌++◌, length, take, drop, Option, Some, None, Result, Ok, Err, refl, sym, ap, ◌∙◌, subst, arith}
+use Rattle.std.proofs.Common.{◌≡◌, ℕ, zero, suc, ◌<◌, ◌≤◌, Bool, true, false, cond, ◌&&◌, ◌||◌, ◌==◌, eqb, nat_lt, nat_le, List, [], ◌∷◌, ◌++◌}
+use Rattle.std.proofs.Common.{length, take, drop, Option, Some, None, Result, Ok, Err, refl, sym, ap, ◌∙◌, subst, arith}
 use Rattle.std.specs.List.{prefix_len, list_all}
 use Rattle.std.specs.Char.{is_ascii_digit}
 use Rattle.std.proofs.lemmas.Bool.Decides.{nat_tests}
-use Rattle.std.proofs.lemmas.List.{take-append-drop, length-take-le}
+use Rattle.std.proofs.lemmas.List.{take-append-drop, take_at, length-take-le}
 use Rattle.std.proofs.lemmas.List.Sums.{prefix_len-le-length}
 use Rattle.campl_tree.specs.declared.place.Place.{Place}
 use Rattle.campl_lex.specs.Limits.{longest_name, greatest_number}
@@ -12,8 +13,9 @@ use Rattle.campl_lex.specs.declared.token.TokenKind.TheVariants as kind
 use Rattle.campl_lex.specs.declared.piece.Piece.{Piece}
 use Rattle.campl_lex.specs.declared.fault.LexFault.{LexFault}
 use Rattle.campl_lex.specs.declared.fault.LexFault.TheVariants.{BadCharacter, NumberTooLarge, NameTooLong}
-use Rattle.campl_lex.specs.Spelling.{begins_name, goes_on, number_of, is_symbol, name_kind, kind_of}
-use Rattle.campl_lex.specs.Tokens.{is_white, begins_comment, begins_with, ends_line, is_quote, IsBlank, IsSpelling, IsLongest, IsWithinLimits, IsToken, Offends}
+use Rattle.campl_lex.specs.Spelling.{begins_name, goes_on, number_of, is_symbol, name_kind, symbol_kind, kind_of}
+use Rattle.campl_lex.specs.Tokens.{is_white, begins_comment, begins_with, ends_line, is_quote, IsBlank, IsSpelling, IsLongest, IsWithinLimits}
+use Rattle.campl_lex.specs.Tokens.{IsToken, Offends}
 use Rattle.campl_lex.specs.Tokens as says
 use Rattle.campl_lex.specs.Reading.{name_piece, number_piece, symbol_piece, symbol_len}
 use Rattle.campl_lex.proofs.Runs.{run_longest}
@@ -162,10 +164,10 @@ symbol_most c cs b d q (a ∷ x) y e s =
     let total : symbol_len a (x ++ y) ≡ symbol_len c cs = ap (λ t. symbol_len a t) tail ∙ ap (λ t. symbol_len t cs) same in
     (omega arith, omega arith)
 
-pub kind_symbol : (c : ℕ) (w : List ℕ) → begins_name c ≡ false → is_ascii_digit c ≡ false → is_quote c ≡ false → kind_of (c ∷ w) ≡ kind.Symbol
+pub kind_symbol : (c : ℕ) (w : List ℕ) → begins_name c ≡ false → is_ascii_digit c ≡ false → is_quote c ≡ false → kind_of (c ∷ w) ≡ symbol_kind (c ∷ w)
 kind_symbol c w b d q = by (eqb c 34) refl (eqb c 39) refl
   where
-    by : (x : Bool) → eqb c 34 ≡ x → (y : Bool) → eqb c 39 ≡ y → kind_of (c ∷ w) ≡ kind.Symbol
+    by : (x : Bool) → eqb c 34 ≡ x → (y : Bool) → eqb c 39 ≡ y → kind_of (c ∷ w) ≡ symbol_kind (c ∷ w)
     by true e y f = apart (is_quote c) (ap (λ t. t || c == 39) e) q
     by false e true f = apart (is_quote c) (ap (λ t. (c == 34) || t) f ∙ ap (λ t. t || true) e) q
     by false e false f = rw (e, f, d, b) refl
@@ -179,11 +181,11 @@ symbol_within c w b d q =
     }
 
 pub sound_symbol : (p : Place) (c : ℕ) (cs : List ℕ) → (c == 9) ≡ false → is_white c cs ≡ false → begins_comment (c ∷ cs) ≡ false
-    → begins_name c ≡ false → is_ascii_digit c ≡ false → is_quote c ≡ false → Stands p (c ∷ cs) (symbol_piece p c cs)
+    → begins_name c ≡ false → is_ascii_digit c ≡ false → is_quote c ≡ false → Stands p (c ∷ cs) (symbol_piece p (c ∷ cs))
 sound_symbol p c cs t wh m b d q = by (symbol_len c cs) refl (eqb (symbol_len c cs) 0) refl
   where
     found : (n : ℕ) → symbol_len c cs ≡ suc n → (w rest : List ℕ) → c ∷ cs ≡ w ++ rest → length w ≡ suc n → is_symbol w ≡ true
-        → Front (c ∷ cs) (Some kind.Symbol) (suc n)
+        → Front (c ∷ cs) (Some (symbol_kind (take (suc n) (c ∷ cs)))) (suc n)
     found n e [] rest f l s = absurd (omega arith)
     found n e (a ∷ w) rest f l s =
         let same : c ≡ a = same_head c a cs (w ++ rest) f in (
@@ -200,10 +202,11 @@ sound_symbol p c cs t wh m b d q = by (symbol_len c cs) refl (eqb (symbol_len c 
             no_comment = ap begins_comment (sym f) ∙ m;
             within = symbol_within a w (ap begins_name (sym same) ∙ b) (ap is_ascii_digit (sym same) ∙ d) (ap is_quote (sym same) ∙ q);
           },
-          sym (kind_symbol a w (ap begins_name (sym same) ∙ b) (ap is_ascii_digit (sym same) ∙ d) (ap is_quote (sym same) ∙ q)),
+          ap symbol_kind (ap (take (suc n)) f ∙ take_at (a ∷ w) rest (suc n) l)
+              ∙ sym (kind_symbol a w (ap begins_name (sym same) ∙ b) (ap is_ascii_digit (sym same) ∙ d) (ap is_quote (sym same) ∙ q)),
         )
 
-    by : (n : ℕ) → symbol_len c cs ≡ n → (z : Bool) → eqb n 0 ≡ z → Stands p (c ∷ cs) (cond z (Err (BadCharacter p)) (Ok (record { kind = Some kind.Symbol; length = n })))
+    by : (n : ℕ) → symbol_len c cs ≡ n → (z : Bool) → eqb n 0 ≡ z → Stands p (c ∷ cs) (cond z (Err (BadCharacter p)) (Ok (record { kind = Some (symbol_kind (take n (c ∷ cs))); length = n })))
     by n e true z =
         says.bad_character c cs t q wh m
         (λ x y f s. let h : (0 < length x) × (length x ≤ symbol_len c cs) = symbol_most c cs b d q x y f s in

@@ -1,8 +1,34 @@
 -- The longest symbol.
-use Rattle.std.proofs.Common.{◌≡◌, ℕ, suc, ◌≤◌, Bool, true, false, cond, not, ◌&&◌, ◌==◌, List, [], ◌∷◌, ◌++◌, length, refl, subst, arith}
-use Rattle.campl_lex.specs.Spelling.{is_symbol, is_single, is_double, is_triple}
+use Rattle.std.proofs.Common.{◌≡◌, ℕ, suc, ◌≤◌, Bool, true, false, cond, not, ◌&&◌, ◌==◌, List, [], ◌∷◌, ◌++◌, length, None, ◌≢◌, refl, subst, arith}
+use Rattle.campl_lex.specs.Spelling.{singles, doubles, triples, kind_in, symbol, is_symbol, is_single, is_double, is_triple}
 use Rattle.campl_lex.specs.Reading.{symbol_len, peek}
 use Rattle.campl_lex.proofs.Classes.{begins_symbol, double_begins, triple_begins}
+
+-- a symbol's kind stands in the table of its length
+pub of_one : (w : List ℕ) → length w ≡ 1 → symbol w ≡ kind_in singles w
+of_one [] h = absurd (omega arith)
+of_one (a ∷ []) h = refl
+of_one (a ∷ b ∷ w) h = absurd (omega arith)
+
+pub of_two : (w : List ℕ) → length w ≡ 2 → symbol w ≡ kind_in doubles w
+of_two [] h = absurd (omega arith)
+of_two (a ∷ []) h = absurd (omega arith)
+of_two (a ∷ b ∷ []) h = refl
+of_two (a ∷ b ∷ c ∷ w) h = absurd (omega arith)
+
+pub of_three : (w : List ℕ) → length w ≡ 3 → symbol w ≡ kind_in triples w
+of_three [] h = absurd (omega arith)
+of_three (a ∷ []) h = absurd (omega arith)
+of_three (a ∷ b ∷ []) h = absurd (omega arith)
+of_three (a ∷ b ∷ c ∷ []) h = refl
+of_three (a ∷ b ∷ c ∷ d ∷ w) h = absurd (omega arith)
+
+pub of_more : (w : List ℕ) → length w ≢ 1 → length w ≢ 2 → length w ≢ 3 → symbol w ≡ None
+of_more [] h j k = refl
+of_more (a ∷ []) h j k = absurd (omega arith)
+of_more (a ∷ b ∷ []) h j k = absurd (omega arith)
+of_more (a ∷ b ∷ c ∷ []) h j k = absurd (omega arith)
+of_more (a ∷ b ∷ c ∷ d ∷ w) h j k = refl
 
 second : (x y : Bool) → (x && y) ≡ true → y ≡ true
 second true y h = h

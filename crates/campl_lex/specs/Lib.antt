@@ -1,8 +1,11 @@
 pub mod Enclosure
+pub mod Kinds
 pub mod Layout
 pub mod Limits
 pub mod Literal
+pub mod Meaning
 pub mod Reading
 pub mod Spelling
 pub mod Spot
+pub mod Tables
 pub mod Tokens

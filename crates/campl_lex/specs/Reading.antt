@@ -1,13 +1,13 @@
 -- What stands at the front of a text and which tokens follow, as functions: the way from a text to what `Tokens` says of it.
-use Rattle.std.specs.Prelude.{ℕ, zero, suc, ◌+◌, ◌-◌, not, ◌&&◌, ◌==◌, nat_lt, nat_le, if◌then◌else◌, List, [], ◌∷◌, length, take, Option, Some, None, is_some, slice_index_or, Result, Ok, Err}
+use Rattle.std.specs.Prelude.{ℕ, zero, suc, ◌+◌, ◌-◌, not, ◌&&◌, ◌==◌, nat_lt, nat_le, if◌then◌else◌, List, [], ◌∷◌, length, take, Option, Some, None}
+use Rattle.std.specs.Prelude.{slice_index_or, Result, Ok, Err}
 use Rattle.std.specs.List.{prefix_len}
 use Rattle.std.specs.Char.{is_ascii_digit}
-use lib.Utf8.{scalar}
 use Rattle.campl_tree.specs.declared.place.Place.{Place}
 use Rattle.campl_lex.specs.Limits.{longest_name, longest_text, greatest_number}
 use Rattle.campl_lex.specs.declared.token.Token.{Token}
 use Rattle.campl_lex.specs.declared.token.TokenKind.{TokenKind}
-use Rattle.campl_lex.specs.declared.token.TokenKind.TheVariants.{Number, Text, Character, Symbol}
+use Rattle.campl_lex.specs.declared.token.TokenKind.TheVariants.{Number, Text, Character}
 use Rattle.campl_lex.specs.declared.spot.Spot.{Spot}
 use Rattle.campl_lex.specs.declared.literal.Stop.{Stop}
 use Rattle.campl_lex.specs.declared.literal.Stop.TheVariants as stop
@@ -16,8 +16,8 @@ use Rattle.campl_lex.specs.declared.piece.Piece.{Piece}
 use Rattle.campl_lex.specs.declared.fault.LexFault.{LexFault}
 use Rattle.campl_lex.specs.declared.fault.LexFault.TheVariants.{BadCharacter, OpenString, BadEscape, NumberTooLarge, NameTooLong, Tab, TextTooLong}
 use Rattle.campl_lex.specs.Spot.{past}
-use Rattle.campl_lex.specs.Spelling.{begins_name, goes_on, number_of, is_single, is_double, is_triple, name_kind}
-use Rattle.campl_lex.specs.Literal.{short_escape, is_hex_digit, hex_value}
+use Rattle.campl_lex.specs.Spelling.{begins_name, goes_on, number_of, is_single, is_double, is_triple, name_kind, symbol_kind}
+use Rattle.campl_lex.specs.Meaning.{escape}
 use Rattle.campl_lex.specs.Tokens.{begins_comment, is_white, is_quote}
 use Rattle.campl_lex.specs.Layout.{adds}
 
@@ -25,18 +25,14 @@ use Rattle.campl_lex.specs.Layout.{adds}
 abbrev pub peek : ℕ → List ℕ → ℕ
 peek i cs = slice_index_or cs i 0
 
--- the length of an escape in braces with n digits, behind its `{`; 0 where it is none
-abbrev pub braced_len : ℕ → List ℕ → ℕ
-braced_len n cs = if nat_le 1 n && nat_le n 6 && peek n cs == 125 && scalar (hex_value (take n cs)) then n + 3 else 0
-
-abbrev pub unicode_len : List ℕ → ℕ
-unicode_len [] = 0
-unicode_len (c ∷ cs) = if c == 123 then braced_len (prefix_len is_hex_digit cs) cs else 0
+-- how many characters an escape has, if there is one
+abbrev pub length_of : Option (ℕ × ℕ) → ℕ
+length_of None = 0
+length_of (Some e) = e.1
 
 -- the length of the escape behind a backslash; 0 where it is none
 abbrev pub escape_len : List ℕ → ℕ
-escape_len [] = 0
-escape_len (c ∷ cs) = if is_some (short_escape c) then 1 else (if c == 117 then unicode_len cs else 0)
+escape_len cs = length_of (escape cs)
 
 -- why a literal stops before these characters, if it does
 abbrev pub stop_of : ℕ → List ℕ → Option Stop
@@ -99,8 +95,9 @@ number_piece p w = if nat_le (number_of w) greatest_number then Ok (record { kin
 abbrev pub symbol_len : ℕ → List ℕ → ℕ
 symbol_len a cs = if is_triple a (peek 0 cs) (peek 1 cs) then 3 else (if is_double a (peek 0 cs) then 2 else (if is_single a then 1 else 0))
 
-abbrev pub symbol_piece : Place → ℕ → List ℕ → Result Piece LexFault
-symbol_piece p c cs = let n = symbol_len c cs in if n == 0 then Err (BadCharacter p) else Ok (record { kind = Some Symbol; length = n })
+abbrev pub symbol_piece : Place → List ℕ → Result Piece LexFault
+symbol_piece p [] = Err (BadCharacter p)
+symbol_piece p (c ∷ cs) = let n = symbol_len c cs in if n == 0 then Err (BadCharacter p) else Ok (record { kind = Some (symbol_kind (take n (c ∷ cs))); length = n })
 
 abbrev pub blank : ℕ → Piece
 blank n = record { kind = None; length = n }
@@ -115,7 +112,7 @@ piece p (c ∷ cs) =
     else (if begins_name c then name_piece p (c ∷ take (prefix_len goes_on cs) cs)
     else (if is_ascii_digit c then number_piece p (c ∷ take (prefix_len is_ascii_digit cs) cs)
     else (if is_quote c then literal p c cs
-    else symbol_piece p c cs)))))
+    else symbol_piece p (c ∷ cs))))))
 
 -- the token of a piece, if it is one
 abbrev pub tokens_of : Option TokenKind → Spot → Spot → List Token

@@ -1,6 +1,7 @@
 -- The tokens of a text, as a relation between the whole text and a list of tokens or a first fault.
 -- A character is its code: 9 is Tab, 10 LF, 13 CR, 32 a space, 34 ", 39 ', 45 -.
-use Rattle.std.specs.Prelude.{◌≡◌, ◌≢◌, ℕ, ◌<◌, ◌≤◌, Bool, true, false, ◌==◌, not, ◌&&◌, ◌||◌, List, [], ◌∷◌, ◌++◌, length, Result, Ok, Err, MatchResult, Vec}
+use Rattle.std.specs.Prelude.{◌≡◌, ◌≢◌, ℕ, ◌<◌, ◌≤◌, Bool, true, false, ◌==◌, not, ◌&&◌, ◌||◌, List, [], ◌∷◌, ◌++◌, length, Result, Ok, Err}
+use Rattle.std.specs.Prelude.{MatchResult, Vec}
 use Rattle.std.specs.List.{list_all}
 use Rattle.std.specs.Str.{encode_utf8_all}
 use Rattle.campl_tree.specs.declared.place.Place.{Place}
@@ -8,11 +9,12 @@ use Rattle.campl_lex.specs.Limits.{longest_name, longest_text, greatest_number}
 use Rattle.campl_lex.specs.declared.token.Token.{Token}
 use Rattle.campl_lex.specs.declared.spot.Spot.{Spot}
 use Rattle.campl_lex.specs.declared.fault.LexFault.{LexFault}
-use Rattle.campl_lex.specs.declared.fault.LexFault.TheVariants.{BadCharacter, OpenString, BadEscape, NumberTooLarge, NameTooLong, Tab, TextTooLong, OutOfMemory}
+use Rattle.campl_lex.specs.declared.fault.LexFault.TheVariants.{BadCharacter, OpenString, BadEscape, NumberTooLarge, NameTooLong, Tab, TextTooLong}
+use Rattle.campl_lex.specs.declared.fault.LexFault.TheVariants.{OutOfMemory}
 use Rattle.campl_lex.specs.Spot.{place_past, past, first_spot}
 use Rattle.campl_lex.specs.Spelling.{is_name, is_number, number_of, is_symbol, kind_of}
 use Rattle.campl_lex.specs.Literal.{IsEscape, Spells}
-use Rattle.campl_lex.specs.Layout.{adds, text_of}
+use Rattle.campl_lex.specs.Layout.{adds, lexeme_of}
 
 -- the character stands first
 abbrev pub begins_with : ℕ → List ℕ → Bool
@@ -89,11 +91,11 @@ pub data Offends (p : Place) : List ℕ → LexFault → Type 0 where
 abbrev pub token : Spot → List ℕ → Token
 token s w = record { kind = kind_of w; start = s.at; stop = (past s w).at; place = s.place }
 
--- in the bytes of a source a token's text is a spelling, which tells its kind
+-- in the bytes of a source a token's lexeme is a spelling, which tells its kind
 pub record IsSlice (source : List ℕ) (t : Token) : Type 0 where
   pub letters : List ℕ
   pub spelling : IsSpelling letters
-  pub bytes_are : text_of source t ≡ encode_utf8_all letters
+  pub bytes_are : lexeme_of source t ≡ encode_utf8_all letters
   pub kind_is : t.kind ≡ kind_of letters
 
 -- A text that begins at a spot has this list of tokens, or this first fault.

@@ -1,9 +1,12 @@
 //! Layout: where `{`, `}` and `;` stand between the tokens of a source.
-ghost use Rattle.std.specs.Prelude.{◌≡◌, ◌≢◌, ℕ, ◌+◌, ◌*◌, ◌≤◌, suc, [], ◌∷◌, ◌++◌, Ok, Err, None, MatchResult, IfOk, IfErr, IfSome, OnOk, length, drop, slice_range, replicate};
+ghost use Rattle.std.specs.Prelude.{◌≡◌, ◌≢◌, ℕ, ◌+◌, ◌*◌, ◌≤◌, suc, List, [], ◌∷◌, ◌++◌, Ok, Err, None, MatchResult, IfOk, IfErr, IfSome, OnOk};
+ghost use Rattle.std.specs.Prelude.{length, drop, slice_range, replicate};
 ghost use Rattle.std.specs.List.{All, prefix_len};
 ghost use Rattle.campl_lex.specs.Enclosure.{block_count, is_block_from};
-ghost use Rattle.campl_lex.specs.Layout.{text_of, is_block_word, is_opening_bracket, is_closing_bracket, IsWritten, inserted, Puts, onto, block_opened, bracket_closed, separated, aligned, closing, before, behind, ended, laid, laid_out, adds, Answers, IsWhole};
-ghost use Rattle.campl_lex.specs.declared.token.TokenKind.TheVariants.{Open, Close, Separator};
+ghost use Rattle.campl_lex.specs.Layout.{opens_block, is_opening_bracket, is_closing_bracket, IsWritten, inserted, Puts, onto};
+ghost use Rattle.campl_lex.specs.Layout.{block_opened, bracket_closed, separated, aligned, closing, before, behind, ended, laid};
+ghost use Rattle.campl_lex.specs.Layout.{laid_out, adds, Answers, IsWhole};
+ghost use Rattle.campl_lex.specs.declared.token.TokenKind.TheVariants.{LeftBrace, RightBrace};
 ghost use Rattle.campl_tree.specs.declared.place.Place.{Place};
 ghost use Rattle.campl_lex.specs.declared.stack.Enclosure.TheVariants.{Block};
 ghost use Rattle.campl_lex.specs.declared.fault.LexFault.TheVariants.{OutOfMemory};
@@ -27,34 +30,25 @@ fn inserted(kind: TokenKind, at: u32, place: Place) -> Token
     }
 }
 
-fn opens_block(word: &[u8]) -> bool
-    ensures { result ≡ is_block_word word.now }
+fn opens_block(kind: TokenKind) -> bool
+    ensures { result ≡ opens_block kind }
 {
-    word == b"where".as_slice()
-        || word == b"of".as_slice()
-        || word == b"do".as_slice()
-        || word == b"as".as_slice()
-        || word == b"race".as_slice()
+    matches!(
+        kind,
+        TokenKind::Where | TokenKind::Of | TokenKind::Do | TokenKind::As | TokenKind::Race
+    )
 }
 
-fn opens_bracket(word: &[u8]) -> bool
-    ensures { result ≡ is_opening_bracket word.now }
+fn opens_bracket(kind: TokenKind) -> bool
+    ensures { result ≡ is_opening_bracket kind }
 {
-    word == b"(".as_slice() || word == b"[".as_slice()
+    matches!(kind, TokenKind::LeftParen | TokenKind::LeftBracket)
 }
 
-fn closes_bracket(word: &[u8]) -> bool
-    ensures { result ≡ is_closing_bracket word.now }
+fn closes_bracket(kind: TokenKind) -> bool
+    ensures { result ≡ is_closing_bracket kind }
 {
-    word == b")".as_slice() || word == b"]".as_slice()
-}
-
-/// The token's text in the bytes of its source.
-fn word(text: &[u8], token: Token) -> &[u8]
-    requires { IsWritten text.now token }
-    ensures { result.now ≡ text_of text.now token }
-{
-    &text[token.start as usize..token.stop as usize]
+    matches!(kind, TokenKind::RightParen | TokenKind::RightBracket)
 }
 
 /// The tokens with what layout puts between them: `{`, `}` and `;` by the columns at which blocks and lines begin.
@@ -81,18 +75,16 @@ fn laid_out(
     tokens: &[Token],
     end: Place,
 ) -> Result<Vec<Token>, LexFault>
-    requires { All (IsWritten text.now) tokens.now }
     ensures { Answers (laid_out text.now end tokens.now) result }
 {
-    let bytes = text.as_str().as_bytes();
-    let end = inserted(TokenKind::Close, bytes.len() as u32, end);
+    let end = inserted(TokenKind::RightBrace, text.as_str().len() as u32, end);
     let first = match tokens {
         [first, ..] => *first,
         [] => end,
     };
     let mut progress = Progress::new(alloc, first)?;
-    let last = progress.put_all(bytes, tokens)?;
-    progress.finish(bytes, last, end)
+    let last = progress.put_all(tokens)?;
+    progress.finish(last, end)
 }
 
 /// The tokens laid out so far, and what is open behind them.
@@ -105,13 +97,13 @@ struct Progress {
 impl Progress {
     /// The source's own block, opened before the first token.
     fn new(alloc: Global, first: Token) -> Result<Progress, LexFault>
-        ensures { MatchResult result (λ p. (p.tokens.items ≡ inserted Open first.start first.place ∷ []) × (p.stack ≡ Block 1 ∷ [])) (λ fault. fault ≡ OutOfMemory) }
+        ensures { MatchResult result (λ p. (p.tokens.items ≡ inserted LeftBrace first.start first.place ∷ []) × (p.stack ≡ Block 1 ∷ [])) (λ fault. fault ≡ OutOfMemory) }
     {
         let mut progress = Progress {
             tokens: Vec::new(alloc),
             stack: Stack::new(alloc),
         };
-        progress.insert(TokenKind::Open, first)?;
+        progress.insert(TokenKind::LeftBrace, first)?;
         progress.stack.push(Enclosure::Block(1))?;
         Ok(progress)
     }
@@ -134,7 +126,7 @@ impl Progress {
         if first.place.column <= self.stack.nearest() {
             return Err(LexFault::BadColumn { place: first.place });
         }
-        self.insert(TokenKind::Open, first)?;
+        self.insert(TokenKind::LeftBrace, first)?;
         self.stack.push(Enclosure::Block(first.place.column))?;
         Ok(())
     }
@@ -143,13 +135,13 @@ impl Progress {
     #[tactic(auto, using(crate::proofs::Stacks::prefix_len_tops, crate::proofs::Stacks::prefix_len_stops, crate::proofs::Stacks::length_tops))]
     fn close_blocks(&mut self, column: u64, before: Token) -> Result<usize, LexFault>
         ensures count { IfOk result (λ n. n ≡ prefix_len (is_block_from column) self.old.stack) }
-        ensures tokens { IfOk result (λ n. self.new.tokens.items ≡ self.old.tokens.items ++ replicate n (inserted Close before.start before.place)) }
+        ensures tokens { IfOk result (λ n. self.new.tokens.items ≡ self.old.tokens.items ++ replicate n (inserted RightBrace before.start before.place)) }
         ensures stack { IfOk result (λ n. self.new.stack ≡ drop n self.old.stack) }
         ensures err { IfErr result (λ fault. fault ≡ OutOfMemory) }
     {
         let mut closed = 0;
         while self.stack.is_block_from(column) {
-            self.insert(TokenKind::Close, before)?;
+            self.insert(TokenKind::RightBrace, before)?;
             self.stack.pop();
             closed += 1;
         }
@@ -174,7 +166,7 @@ impl Progress {
         match self.stack.top() {
             Some(Enclosure::Block(column)) => {
                 if column == token.place.column {
-                    self.insert(TokenKind::Separator, token)?;
+                    self.insert(TokenKind::Semicolon, token)?;
                     Ok(())
                 } else if closed == 0 {
                     Ok(())
@@ -189,10 +181,8 @@ impl Progress {
 
 impl Progress {
     /// Puts what stands before a token, behind the token `last`.
-    fn put_before(&mut self, text: &[u8], last: Option<Token>, token: Token) -> Result<(), LexFault>
-        requires last { IfSome last (IsWritten text.now) }
-        requires token { IsWritten text.now token }
-        ensures { Puts (before text.now last token self.old.stack) self.old.tokens.items result self.new.tokens.items self.new.stack }
+    fn put_before(&mut self, last: Option<Token>, token: Token) -> Result<(), LexFault>
+        ensures { Puts (before last token self.old.stack) self.old.tokens.items result self.new.tokens.items self.new.stack }
     {
         let Some(last) = last else {
             return if token.place.column == 1 {
@@ -201,11 +191,11 @@ impl Progress {
                 Err(LexFault::BadColumn { place: token.place })
             };
         };
-        let opens = opens_block(word(text, last));
+        let opens = opens_block(last.kind);
         if opens {
             self.open_block(token)?;
         }
-        if closes_bracket(word(text, token)) && self.stack.has_bracket() {
+        if closes_bracket(token.kind) && self.stack.has_bracket() {
             return self.close_bracket(token);
         }
         if opens || token.place.line == last.place.line {
@@ -215,14 +205,13 @@ impl Progress {
     }
 
     /// Puts the token itself, which may open a bracket.
-    fn put(&mut self, text: &[u8], token: Token) -> Result<(), LexFault>
-        requires { IsWritten text.now token }
+    fn put(&mut self, token: Token) -> Result<(), LexFault>
         ensures ok { OnOk result (self.new.tokens.items ≡ self.old.tokens.items ++ token ∷ []) }
-        ensures stack { OnOk result (self.new.stack ≡ behind text.now token self.old.stack) }
+        ensures stack { OnOk result (self.new.stack ≡ behind token self.old.stack) }
         ensures err { IfErr result (λ fault. fault ≡ OutOfMemory) }
     {
         self.tokens.push(token)?;
-        if opens_bracket(word(text, token)) {
+        if opens_bracket(token.kind) {
             let column = self.stack.nearest();
             self.stack.push(Enclosure::Bracket(column))?;
         }
@@ -231,13 +220,13 @@ impl Progress {
 
     /// Closes all blocks at the end.
     fn close_all(&mut self, end: Token) -> Result<(), LexFault>
-        ensures ok { OnOk result (self.new.tokens.items ≡ self.old.tokens.items ++ replicate (block_count self.old.stack) (inserted Close end.start end.place)) }
+        ensures ok { OnOk result (self.new.tokens.items ≡ self.old.tokens.items ++ replicate (block_count self.old.stack) (inserted RightBrace end.start end.place)) }
         ensures err { IfErr result (λ fault. fault ≡ OutOfMemory) }
     {
         while let Some(enclosure) = self.stack.top() {
             self.stack.pop();
             if let Enclosure::Block(_) = enclosure {
-                self.insert(TokenKind::Close, end)?;
+                self.insert(TokenKind::RightBrace, end)?;
             }
         }
         Ok(())
@@ -246,34 +235,25 @@ impl Progress {
 
 impl Progress {
     /// Puts all tokens, each behind what stands before it, and gives the last.
-    fn put_all(&mut self, text: &[u8], tokens: &[Token]) -> Result<Option<Token>, LexFault>
-        requires { All (IsWritten text.now) tokens.now }
-        ensures ok { IfOk result (λ last. (end : Place) → adds self.old.tokens.items (laid text.now end self.old.stack None tokens.now) ≡ adds self.new.tokens.items (ended text.now end self.new.stack last)) }
-        ensures last { IfOk result (λ last. IfSome last (IsWritten text.now)) }
-        ensures err { IfErr result (λ fault. fault ≢ OutOfMemory → (end : Place) → laid text.now end self.old.stack None tokens.now ≡ Err fault) }
+    fn put_all(&mut self, tokens: &[Token]) -> Result<Option<Token>, LexFault>
+        ensures ok { IfOk result (λ last. (text : List ℕ) (end : Place) → adds self.old.tokens.items (laid text end self.old.stack None tokens.now) ≡ adds self.new.tokens.items (ended text end self.new.stack last)) }
+        ensures err { IfErr result (λ fault. fault ≢ OutOfMemory → (text : List ℕ) (end : Place) → laid text end self.old.stack None tokens.now ≡ Err fault) }
     {
         let mut last = None;
         for token in tokens {
-            self.put_before(text, last, *token)?;
-            self.put(text, *token)?;
+            self.put_before(last, *token)?;
+            self.put(*token)?;
             last = Some(*token);
         }
         Ok(last)
     }
 
     /// Closes the source's blocks at the end.
-    fn finish(
-        mut self,
-        text: &[u8],
-        last: Option<Token>,
-        end: Token,
-    ) -> Result<Vec<Token>, LexFault>
-        requires last { IfSome last (IsWritten text.now) }
-        requires end { end.start ≡ length text.now }
-        ensures { Answers (adds self.tokens.items (ended text.now end.place self.stack last)) result }
+    fn finish(mut self, last: Option<Token>, end: Token) -> Result<Vec<Token>, LexFault>
+        ensures { (text : List ℕ) → end.start ≡ length text → Answers (adds self.tokens.items (ended text end.place self.stack last)) result }
     {
         if let Some(last) = last
-            && opens_block(word(text, last))
+            && opens_block(last.kind)
         {
             return Err(LexFault::BadColumn { place: end.place });
         }

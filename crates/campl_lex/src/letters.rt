@@ -4,9 +4,6 @@ ghost use Rattle.std.specs.List.{prefix_len};
 ghost use Rattle.std.specs.Char.{is_ascii_digit};
 ghost use Rattle.std.specs.Str.{bytes_eq};
 ghost use Rattle.campl_lex.specs.Spelling.{begins_name, goes_on, number_of};
-ghost use Rattle.campl_lex.specs.Literal.{is_hex_digit, hex_digit, hex_value};
-ghost use Rattle.std.specs.Prelude.{◌<◌};
-ghost use lib.Utf8.{scalar};
 ghost use Rattle.campl_lex.specs.Limits.{greatest_number};
 
 use crate::limits::NUMBER_MAX;
@@ -23,12 +20,6 @@ pub fn goes_on(letter: char) -> bool
     ensures { result ≡ goes_on letter }
 {
     unicode_ident::is_xid_continue(letter) || letter == '\''
-}
-
-fn is_hex_digit(letter: char) -> bool
-    ensures { result ≡ is_hex_digit letter }
-{
-    letter.is_digit(16)
 }
 
 /// Whether the characters are this ASCII word.
@@ -83,19 +74,6 @@ pub fn digits_len(text: &[char]) -> usize
     text.len()
 }
 
-/// How many hexadecimal digits stand at the front.
-pub fn hex_len(text: &[char]) -> usize
-    ensures value { result ≡ prefix_len is_hex_digit text.now }
-    ensures within { result ≤ length text.now }
-{
-    for (i, letter) in text.iter().enumerate() {
-        if !is_hex_digit(*letter) {
-            return i;
-        }
-    }
-    text.len()
-}
-
 /// How many characters stand before the end of the line.
 pub fn line_len(text: &[char]) -> usize
     ensures value { result ≡ prefix_len (λ c. not (c == 10)) text.now }
@@ -121,28 +99,4 @@ pub fn number_fits(digits: &[char]) -> bool
         }
     }
     true
-}
-
-/// Whether hexadecimal digits name a character.
-pub fn names_character(digits: &[char]) -> bool
-    ensures { result ≡ scalar (hex_value digits.now) }
-{
-    let mut value: u32 = 0;
-    for digit in digits {
-        value = value * 16 + hex_digit(*digit);
-        if value > 0x10_FFFF {
-            return false;
-        }
-    }
-    char::from_u32(value).is_some()
-}
-
-fn hex_digit(letter: char) -> u32
-    ensures value { result ≡ hex_digit letter }
-    ensures small { result < 16 }
-{
-    match letter.to_digit(16) {
-        Some(value) => value,
-        None => 0,
-    }
 }

@@ -11,6 +11,8 @@
 
 mod blocks;
 mod fault;
+mod front;
+mod kinds;
 mod letters;
 mod lexer;
 mod limits;
@@ -19,10 +21,12 @@ mod piece;
 mod spot;
 mod stack;
 mod token;
-mod words;
+mod unescape;
 
 pub use blocks::layout;
 pub use fault::LexFault;
+pub use front::Front;
 pub use lexer::{end_of, lex, one_answer};
 pub use limits::{NAME_MAX, NUMBER_MAX, TEXT_MAX};
 pub use token::{Token, TokenKind};
+pub use unescape::escape;

@@ -1,10 +1,8 @@
 //! Literals: what stands between their quotes.
-ghost use Rattle.std.specs.Prelude.{◌≡◌, ◌+◌, ◌<◌, ◌≤◌, length, is_some};
-ghost use Rattle.std.specs.List.{prefix_len};
-ghost use Rattle.campl_lex.specs.Literal.{short_escape, is_hex_digit};
-ghost use Rattle.campl_lex.specs.Reading.{scan, stop_of, item_len, escape_len, unicode_len, braced_len};
+ghost use Rattle.std.specs.Prelude.{◌≡◌, ◌+◌, ◌<◌, ◌≤◌, length};
+ghost use Rattle.campl_lex.specs.Reading.{scan, stop_of, item_len, escape_len};
 
-use crate::letters::{hex_len, names_character, peek};
+use crate::unescape::escape;
 
 /// Why a literal goes on no further.
 #[derive(Clone, Copy, Debug, PartialEq, Eq)]
@@ -28,51 +26,15 @@ pub struct Body {
     pub count: usize,
 }
 
-fn is_short_escape(letter: char) -> bool
-    ensures { result ≡ is_some (short_escape letter) }
-{
-    matches!(letter, 'n' | 'r' | 't' | '\\' | '"' | '\'')
-}
-
-/// The length of an escape of digits in braces, told from behind its `{`; 0 where it is none.
-fn braced_len(text: &[char]) -> usize
-    ensures value { result ≡ braced_len (prefix_len is_hex_digit text.now) text.now }
-    ensures within { result ≤ length text.now + 2 }
-{
-    let digits = hex_len(text);
-    if 1 <= digits && digits <= 6 && peek(text, digits) == '}' && names_character(&text[..digits]) {
-        digits + 3
-    } else {
-        0
-    }
-}
-
-fn unicode_len(text: &[char]) -> usize
-    ensures value { result ≡ unicode_len text.now }
-    ensures within { result ≤ length text.now + 1 }
-{
-    match text {
-        ['{', rest @ ..] => braced_len(rest),
-        _ => 0,
-    }
-}
-
 /// The length of the escape behind a backslash; 0 where it is none.
+#[tactic(auto, using(crate::proofs::Scanning::escape_within))]
 fn escape_len(text: &[char]) -> usize
     ensures value { result ≡ escape_len text.now }
     ensures within { result ≤ length text.now }
 {
-    match text {
-        [] => 0,
-        [first, rest @ ..] => {
-            if is_short_escape(*first) {
-                1
-            } else if *first == 'u' {
-                unicode_len(rest)
-            } else {
-                0
-            }
-        }
+    match escape(text) {
+        Some((_, length, _)) => length,
+        None => 0,
     }
 }
 

@@ -4,11 +4,11 @@ ghost use Rattle.campl_lex.specs.Tokens.{begins_with, begins_comment, is_white};
 ghost use Rattle.campl_lex.specs.Reading.{right, closed_literal, literal, name_piece, number_piece, symbol_piece, blank, piece};
 
 use crate::fault::LexFault;
+use crate::kinds::{name_kind, symbol_kind, symbol_len};
 use crate::letters::{begins_name, digits_len, line_len, name_len, number_fits};
 use crate::limits::{NAME_MAX, TEXT_MAX};
 use crate::literal::{Body, Stop, scan};
 use crate::token::TokenKind;
-use crate::words::{name_kind, symbol_len};
 use campl_tree::Place;
 
 /// A piece of a text: how many characters it takes, and what token it is. White space and comments are none.
@@ -92,15 +92,19 @@ fn number_piece(place: Place, digits: &[char]) -> Result<Piece, LexFault>
     })
 }
 
-fn symbol_piece(place: Place, first: char, rest: &[char]) -> Result<Piece, LexFault>
-    ensures { result ≡ symbol_piece place first rest.now }
+/// The longest symbol at the front of a text.
+fn symbol_piece(place: Place, text: &[char]) -> Result<Piece, LexFault>
+    ensures { result ≡ symbol_piece place text.now }
 {
-    let length = symbol_len(first, rest);
+    let [first, rest @ ..] = text else {
+        return Err(LexFault::BadCharacter { place });
+    };
+    let length = symbol_len(*first, rest);
     if length == 0 {
         return Err(LexFault::BadCharacter { place });
     }
     Ok(Piece {
-        kind: Some(TokenKind::Symbol),
+        kind: Some(symbol_kind(&text[..length])),
         length,
     })
 }
@@ -164,7 +168,7 @@ fn classified(place: Place, text: &[char]) -> Result<Piece, LexFault>
     } else if first == '"' || first == '\'' {
         literal(place, first, rest)
     } else {
-        symbol_piece(place, first, rest)
+        symbol_piece(place, text)
     }
 }
 

@@ -13,8 +13,8 @@ use Rattle.campl_types.specs.Forms as f
 use Rattle.campl_types.specs.Forms.{Form, Forms, anythings}
 use Rattle.campl_types.specs.Substitution as types
 use Rattle.campl_types.specs.World.{World, TypeEntry, DataType, ProtocolType, CoprotocolType, type_named, as_data, data_named, or_else, where_named, type_entry}
-use Rattle.campl_types.specs.Missing.{Row, Head, IsNumber, IsCharacter, IsTruth, IsNil, IsCons, IsPair, IsBuilt, IsOther, parts_of, heads, literals, opened, opened_rows, and_then, is_open, all_open, column, weight, weights, row_weight, rows_weight}
-use Rattle.campl_missing.specs.Heads.{data_heads, constructor_heads}
+use Rattle.campl_types.specs.Missing.{Row, Head, IsNumber, IsCharacter, IsTruth, IsNil, IsCons, IsPair, IsBuilt, IsOther, parts_of, heads, literals, opened, opened_rows, and_then, is_open, all_open, column, weight, weights, row_weight, rows_weight, built_heads}
+use Rattle.campl_missing.specs.Heads.{constructor_heads}
 
 -- Weights
 
@@ -140,21 +140,17 @@ entry-within (e ∷ w) x d i = go e (same_name x _) i (entry-within w x d)
     go (Process k) true j later = let m = later j in omega (arith, m)
     go e false j later = let m = later j in omega (arith, m)
 
-data-within : (w : World) (x : Name) (ts : List SeqType) → AllWithin (most_parts w) (data_heads (data_named w x) ts)
+data-within : (w : World) (x : Name) (ts : List SeqType) → AllWithin (most_parts w) (built_heads (data_named w x) ts)
 data-within w x ts = go (type_named w x) refl
   where
-    go : (o : Option TypeEntry) → type_named w x ≡ o → AllWithin (most_parts w) (data_heads (as_data o) ts)
+    go : (o : Option TypeEntry) → type_named w x ≡ o → AllWithin (most_parts w) (built_heads (as_data o) ts)
     go None i = tt
     go (Some (ProtocolType d)) i = tt
     go (Some (CoprotocolType d)) i = tt
     go (Some (DataType d)) i = lines-within (most_parts w) d ts d.constructors (let m = entry-within w x d i in omega (arith, m))
 
-pub named-heads : (w : World) (at : Place) (x : Name) (ts : SeqTypes) (c : List Form) → heads w (Named at x ts) c ≡ data_heads (data_named w x) (types.list_of ts)
-named-heads w at x ts c = go (data_named w x) refl
-  where
-    go : (o : Option DataDecl) → data_named w x ≡ o → heads w (Named at x ts) c ≡ data_heads (data_named w x) (types.list_of ts)
-    go None e = rw e refl
-    go (Some d) e = rw e refl
+pub named-heads : (w : World) (at : Place) (x : Name) (ts : SeqTypes) (c : List Form) → heads w (Named at x ts) c ≡ built_heads (data_named w x) (types.list_of ts)
+named-heads w at x ts c = refl
 
 pub heads-within : (w : World) (t : SeqType) (c : List Form) → AllWithin (most_parts w) (heads w t c)
 heads-within w Int c = literals-within (most_parts w) c

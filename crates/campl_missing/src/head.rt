@@ -2,11 +2,11 @@
 ghost use Rattle.std.specs.Prelude.{◌≡◌, [], ◌∷◌, ◌++◌, IfOk, map, length};
 ghost use Rattle.campl_tree.specs.View.{view_seq, view_decl, view_data, view_data_constructor};
 ghost use Rattle.campl_types.specs.Missing as definition;
-ghost use Rattle.campl_types.specs.Missing.{column, first_of, literals, parts_of, IsOther, IsTruth, IsNil, IsCons, IsPair, IsBuilt};
+ghost use Rattle.campl_types.specs.Missing.{column, first_of, literals, parts_of, IsOther, IsTruth, IsNil, IsCons, IsPair, IsBuilt, built_heads};
 ghost use Rattle.campl_types.specs.Values as values;
 ghost use Rattle.campl_types.specs.World.{data_named};
 ghost use Rattle.campl_missing.specs.View.{view_form, view_forms, view_rows, view_head, view_heads, head_seen};
-ghost use Rattle.campl_missing.specs.Heads.{constructor_heads, data_heads};
+ghost use Rattle.campl_missing.specs.Heads.{constructor_heads};
 
 use crate::form::Form;
 use campl_names::{TypeRef, World, parts_at};
@@ -159,7 +159,7 @@ fn named_heads(
     name: &Name,
     arguments: &[SeqType],
 ) -> Result<Items<Head>, AllocError>
-    ensures { IfOk result (λ hs. view_heads hs ≡ data_heads (data_named (map view_decl world.now) name.now) (map view_seq arguments.now)) }
+    ensures { IfOk result (λ hs. view_heads hs ≡ built_heads (data_named (map view_decl world.now) name.now) (map view_seq arguments.now)) }
 {
     match world.type_named(name) {
         Some(TypeRef::Data(d)) => constructor_heads(alloc, d, arguments),

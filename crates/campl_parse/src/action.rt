@@ -1,14 +1,14 @@
 //! Commands behind which a process goes on.
 ghost use Rattle.std.specs.Prelude.{◌≡◌};
 ghost use Rattle.campl_gram.specs.Reading.{next_in};
-ghost use Rattle.campl_grammar.specs.Word.{terminals};
+ghost use Rattle.campl_grammar.specs.Terminal.{terminals};
 ghost use Rattle.campl_grammar.specs.Tables.{starts};
 ghost use Rattle.campl_grammar.specs.Rules.{read, piece};
 ghost use Rattle.campl_parse.specs.Bodies.{on_channel as on_channel_piece};
 ghost use Rattle.campl_grammar.specs.Names as name;
 ghost use Rattle.campl_parse_terms.specs.Reads.{Reads};
 
-use campl_grammar::Kind;
+use campl_lex::TokenKind;
 use campl_parse_terms::cursor::Cursor;
 use campl_parse_terms::error::ParseError;
 use campl_parse_terms::expr::expr;
@@ -22,7 +22,13 @@ use std::alloc::Global;
 fn starts_action(cursor: &Cursor<'_>) -> bool
     ensures { result ≡ next_in terminals (starts name.actions) cursor.now }
 {
-    let kinds = [Kind::Put, Kind::Get, Kind::Hput, Kind::Split, Kind::Close];
+    let kinds = [
+        TokenKind::Put,
+        TokenKind::Get,
+        TokenKind::Hput,
+        TokenKind::Split,
+        TokenKind::Close,
+    ];
     cursor.at_any(&kinds)
 }
 
@@ -37,7 +43,7 @@ pub fn actions(
     let mut found = Items::new(alloc);
     'actions: while starts_action(cursor) {
         found.push(action(alloc, cursor, depth)?)?;
-        cursor.expect(Kind::Semicolon, depth)?;
+        cursor.expect(TokenKind::Semicolon, depth)?;
     }
     Ok(found)
 }
@@ -47,16 +53,16 @@ pub fn actions(
 fn action(alloc: Global, cursor: &mut Cursor<'_>, depth: u32) -> Result<Action, ParseError>
     ensures { Reads (read name.action depth cursor.old) result cursor.new }
 {
-    if cursor.at(Kind::Put) {
+    if cursor.at(TokenKind::Put) {
         return put(alloc, cursor, depth);
     }
-    if cursor.at(Kind::Get) {
+    if cursor.at(TokenKind::Get) {
         return get(alloc, cursor, depth);
     }
-    if cursor.at(Kind::Hput) {
+    if cursor.at(TokenKind::Hput) {
         return hput(alloc, cursor, depth);
     }
-    if cursor.at(Kind::Split) {
+    if cursor.at(TokenKind::Split) {
         return split(alloc, cursor, depth);
     }
     close(alloc, cursor, depth)
@@ -66,7 +72,7 @@ fn action(alloc: Global, cursor: &mut Cursor<'_>, depth: u32) -> Result<Action, 
 fn on_channel(alloc: Global, cursor: &mut Cursor<'_>, depth: u32) -> Result<Ident, ParseError>
     ensures { Reads (piece on_channel_piece depth cursor.old) result cursor.new }
 {
-    read!(cursor.expect(Kind::On, depth));
+    read!(cursor.expect(TokenKind::On, depth));
     cursor.lower(alloc, depth)
 }
 
@@ -75,7 +81,7 @@ fn on_channel(alloc: Global, cursor: &mut Cursor<'_>, depth: u32) -> Result<Iden
 fn put(alloc: Global, cursor: &mut Cursor<'_>, depth: u32) -> Result<Action, ParseError>
     ensures { Reads (read name.put depth cursor.old) result cursor.new }
 {
-    let place = read!(cursor.expect(Kind::Put, depth)).place();
+    let place = read!(cursor.expect(TokenKind::Put, depth)).place();
     let value = read!(expr(alloc, cursor, depth));
     let channel = read!(on_channel(alloc, cursor, depth));
     Ok(Action::Put(place, value, channel))
@@ -86,7 +92,7 @@ fn put(alloc: Global, cursor: &mut Cursor<'_>, depth: u32) -> Result<Action, Par
 fn get(alloc: Global, cursor: &mut Cursor<'_>, depth: u32) -> Result<Action, ParseError>
     ensures { Reads (read name.get depth cursor.old) result cursor.new }
 {
-    let place = read!(cursor.expect(Kind::Get, depth)).place();
+    let place = read!(cursor.expect(TokenKind::Get, depth)).place();
     let binder = read!(var(alloc, cursor, depth));
     let channel = read!(on_channel(alloc, cursor, depth));
     Ok(Action::Get(place, binder, channel))
@@ -97,7 +103,7 @@ fn get(alloc: Global, cursor: &mut Cursor<'_>, depth: u32) -> Result<Action, Par
 fn hput(alloc: Global, cursor: &mut Cursor<'_>, depth: u32) -> Result<Action, ParseError>
     ensures { Reads (read name.hput depth cursor.old) result cursor.new }
 {
-    let place = read!(cursor.expect(Kind::Hput, depth)).place();
+    let place = read!(cursor.expect(TokenKind::Hput, depth)).place();
     let constructor = read!(cursor.upper(alloc, depth));
     let channel = read!(on_channel(alloc, cursor, depth));
     Ok(Action::Hput(place, constructor, channel))
@@ -108,9 +114,9 @@ fn hput(alloc: Global, cursor: &mut Cursor<'_>, depth: u32) -> Result<Action, Pa
 fn split(alloc: Global, cursor: &mut Cursor<'_>, depth: u32) -> Result<Action, ParseError>
     ensures { Reads (read name.split depth cursor.old) result cursor.new }
 {
-    let place = read!(cursor.expect(Kind::Split, depth)).place();
-    let channel = read!(cursor.lower_before(alloc, Kind::Into, depth));
-    let first = read!(cursor.lower_before(alloc, Kind::Comma, depth));
+    let place = read!(cursor.expect(TokenKind::Split, depth)).place();
+    let channel = read!(cursor.lower_before(alloc, TokenKind::Into, depth));
+    let first = read!(cursor.lower_before(alloc, TokenKind::Comma, depth));
     let second = read!(cursor.lower(alloc, depth));
     Ok(Action::Split(place, channel, first, second))
 }
@@ -120,7 +126,7 @@ fn split(alloc: Global, cursor: &mut Cursor<'_>, depth: u32) -> Result<Action, P
 fn close(alloc: Global, cursor: &mut Cursor<'_>, depth: u32) -> Result<Action, ParseError>
     ensures { Reads (read name.close depth cursor.old) result cursor.new }
 {
-    let place = read!(cursor.expect(Kind::Close, depth)).place();
+    let place = read!(cursor.expect(TokenKind::Close, depth)).place();
     let channel = read!(cursor.lower(alloc, depth));
     Ok(Action::Close(place, channel))
 }

@@ -11,7 +11,7 @@ ghost use Rattle.campl_parse_terms.specs.declared.error.ParseError.TheVariants.{
 use crate::action::actions;
 use crate::named::named;
 use crate::plug::links;
-use campl_grammar::Kind;
+use campl_lex::TokenKind;
 use campl_parse_terms::cursor::Cursor;
 use campl_parse_terms::error::ParseError;
 use campl_parse_terms::expr::expr;
@@ -29,16 +29,15 @@ use std::alloc::Global;
 pub fn body(alloc: Global, cursor: &mut Cursor<'_>, depth: u32) -> Result<Body, ParseError>
     ensures { Reads (read name.body depth cursor.old) result cursor.new }
 {
-    if !cursor.at(Kind::Do) {
+    if read!(cursor.take(TokenKind::Do, depth)).is_none() {
         let last = read!(last(alloc, cursor, depth));
         let actions = Items::new(alloc);
         return Ok(Body { actions, last });
     }
-    read!(cursor.expect(Kind::Do, depth));
-    read!(cursor.expect(Kind::LeftBrace, depth));
+    read!(cursor.expect(TokenKind::LeftBrace, depth));
     let actions = read!(actions(alloc, cursor, depth + 1));
     let last = read!(last(alloc, cursor, depth + 1));
-    read!(cursor.expect(Kind::RightBrace, depth + 1));
+    read!(cursor.expect(TokenKind::RightBrace, depth + 1));
     Ok(Body { actions, last })
 }
 
@@ -47,7 +46,7 @@ pub fn body(alloc: Global, cursor: &mut Cursor<'_>, depth: u32) -> Result<Body, 
 pub fn arrow_body(alloc: Global, cursor: &mut Cursor<'_>, depth: u32) -> Result<Body, ParseError>
     ensures { Reads (piece arrow_body_piece depth cursor.old) result cursor.new }
 {
-    read!(cursor.expect(Kind::Arrow, depth));
+    read!(cursor.expect(TokenKind::Arrow, depth));
     body(alloc, cursor, depth)
 }
 
@@ -57,22 +56,22 @@ pub fn arrow_body(alloc: Global, cursor: &mut Cursor<'_>, depth: u32) -> Result<
 fn last(alloc: Global, cursor: &mut Cursor<'_>, depth: u32) -> Result<Last, ParseError>
     ensures { Reads (read name.last depth cursor.old) result cursor.new }
 {
-    if cursor.at(Kind::Halt) {
+    if cursor.at(TokenKind::Halt) {
         return halt(alloc, cursor, depth);
     }
-    if cursor.at(Kind::Hcase) {
+    if cursor.at(TokenKind::Hcase) {
         return hcase(alloc, cursor, depth);
     }
-    if cursor.at(Kind::Fork) {
+    if cursor.at(TokenKind::Fork) {
         return fork(alloc, cursor, depth);
     }
-    if cursor.at(Kind::Plug) {
+    if cursor.at(TokenKind::Plug) {
         return plug(alloc, cursor, depth);
     }
-    if cursor.at(Kind::Race) {
+    if cursor.at(TokenKind::Race) {
         return race(alloc, cursor, depth);
     }
-    if cursor.at(Kind::Case) {
+    if cursor.at(TokenKind::Case) {
         return choice(alloc, cursor, depth);
     }
     named(alloc, cursor, depth)
@@ -83,8 +82,8 @@ fn last(alloc: Global, cursor: &mut Cursor<'_>, depth: u32) -> Result<Last, Pars
 fn halt(alloc: Global, cursor: &mut Cursor<'_>, depth: u32) -> Result<Last, ParseError>
     ensures { Reads (read name.halt depth cursor.old) result cursor.new }
 {
-    let place = read!(cursor.expect(Kind::Halt, depth)).place();
-    if !cursor.at(Kind::Lower) {
+    let place = read!(cursor.expect(TokenKind::Halt, depth)).place();
+    if !cursor.at(TokenKind::Lower) {
         return Ok(Last::Halt(place, None));
     }
     let channel = read!(cursor.lower(alloc, depth));
@@ -97,8 +96,8 @@ fn halt(alloc: Global, cursor: &mut Cursor<'_>, depth: u32) -> Result<Last, Pars
 fn hcase(alloc: Global, cursor: &mut Cursor<'_>, depth: u32) -> Result<Last, ParseError>
     ensures { Reads (read name.hcase depth cursor.old) result cursor.new }
 {
-    let place = read!(cursor.expect(Kind::Hcase, depth)).place();
-    let channel = read!(cursor.lower_before(alloc, Kind::Of, depth));
+    let place = read!(cursor.expect(TokenKind::Hcase, depth)).place();
+    let channel = read!(cursor.lower_before(alloc, TokenKind::Of, depth));
     let rows = read!(hrows(alloc, cursor, depth));
     Ok(Last::Hcase(place, channel, rows))
 }
@@ -109,8 +108,8 @@ fn hcase(alloc: Global, cursor: &mut Cursor<'_>, depth: u32) -> Result<Last, Par
 fn fork(alloc: Global, cursor: &mut Cursor<'_>, depth: u32) -> Result<Last, ParseError>
     ensures { Reads (read name.fork depth cursor.old) result cursor.new }
 {
-    let place = read!(cursor.expect(Kind::Fork, depth)).place();
-    let channel = read!(cursor.lower_before(alloc, Kind::As, depth));
+    let place = read!(cursor.expect(TokenKind::Fork, depth)).place();
+    let channel = read!(cursor.lower_before(alloc, TokenKind::As, depth));
     let (first, second) = read!(fork_rows(alloc, cursor, depth));
     forked(alloc, place, channel, first, second)
 }
@@ -124,11 +123,11 @@ fn fork_rows(
 ) -> Result<(Branch, Branch), ParseError>
     ensures { Reads (piece fork_rows_piece depth cursor.old) result cursor.new }
 {
-    read!(cursor.expect(Kind::LeftBrace, depth));
+    read!(cursor.expect(TokenKind::LeftBrace, depth));
     let first = read!(branch(alloc, cursor, depth + 1));
-    read!(cursor.expect(Kind::Semicolon, depth + 1));
+    read!(cursor.expect(TokenKind::Semicolon, depth + 1));
     let second = read!(branch(alloc, cursor, depth + 1));
-    read!(cursor.expect(Kind::RightBrace, depth + 1));
+    read!(cursor.expect(TokenKind::RightBrace, depth + 1));
     Ok((first, second))
 }
 
@@ -153,9 +152,9 @@ fn forked(
 fn plug(alloc: Global, cursor: &mut Cursor<'_>, depth: u32) -> Result<Last, ParseError>
     ensures { Reads (read name.plug depth cursor.old) result cursor.new }
 {
-    let place = read!(cursor.expect(Kind::Plug, depth)).place();
+    let place = read!(cursor.expect(TokenKind::Plug, depth)).place();
     let channels = read!(links(alloc, cursor, depth, Items::new(alloc)));
-    read!(cursor.expect(Kind::Of, depth));
+    read!(cursor.expect(TokenKind::Of, depth));
     let parts = read!(parts(alloc, cursor, depth));
     Ok(Last::Plug(place, channels, parts))
 }
@@ -166,7 +165,7 @@ fn plug(alloc: Global, cursor: &mut Cursor<'_>, depth: u32) -> Result<Last, Pars
 fn race(alloc: Global, cursor: &mut Cursor<'_>, depth: u32) -> Result<Last, ParseError>
     ensures { Reads (read name.race depth cursor.old) result cursor.new }
 {
-    let place = read!(cursor.expect(Kind::Race, depth)).place();
+    let place = read!(cursor.expect(TokenKind::Race, depth)).place();
     let rows = read!(branches(alloc, cursor, depth));
     Ok(Last::Race(place, rows))
 }
@@ -177,9 +176,9 @@ fn race(alloc: Global, cursor: &mut Cursor<'_>, depth: u32) -> Result<Last, Pars
 fn choice(alloc: Global, cursor: &mut Cursor<'_>, depth: u32) -> Result<Last, ParseError>
     ensures { Reads (read name.choice depth cursor.old) result cursor.new }
 {
-    let place = read!(cursor.expect(Kind::Case, depth)).place();
+    let place = read!(cursor.expect(TokenKind::Case, depth)).place();
     let value = read!(expr(alloc, cursor, depth));
-    read!(cursor.expect(Kind::Of, depth));
+    read!(cursor.expect(TokenKind::Of, depth));
     let rows = read!(crows(alloc, cursor, depth));
     Ok(Last::Case(place, value, rows))
 }
@@ -207,7 +206,7 @@ fn hrow(alloc: Global, cursor: &mut Cursor<'_>, depth: u32) -> Result<HcaseRow, 
     ensures { Reads (read name.hrow depth cursor.old) result cursor.new }
 {
     let constructor = read!(cursor.upper(alloc, depth));
-    read!(cursor.expect(Kind::Arrow, depth));
+    read!(cursor.expect(TokenKind::Arrow, depth));
     let body = read!(body(alloc, cursor, depth));
     Ok(HcaseRow { constructor, body })
 }
@@ -235,7 +234,7 @@ fn branch(alloc: Global, cursor: &mut Cursor<'_>, depth: u32) -> Result<Branch, 
     ensures { Reads (read name.branch depth cursor.old) result cursor.new }
 {
     let channel = read!(cursor.lower(alloc, depth));
-    read!(cursor.expect(Kind::Arrow, depth));
+    read!(cursor.expect(TokenKind::Arrow, depth));
     let body = read!(body(alloc, cursor, depth));
     Ok(Branch { channel, body })
 }
@@ -264,7 +263,7 @@ fn part(alloc: Global, cursor: &mut Cursor<'_>, depth: u32) -> Result<Part, Pars
 {
     let place = cursor.place();
     let inputs = read!(names(alloc, cursor, depth));
-    let outputs = read!(names_behind(alloc, cursor, Kind::FatArrow, depth));
+    let outputs = read!(names_behind(alloc, cursor, TokenKind::FatArrow, depth));
     let body = read!(arrow_body(alloc, cursor, depth));
     Ok(Part {
         place,
@@ -297,7 +296,7 @@ fn crow(alloc: Global, cursor: &mut Cursor<'_>, depth: u32) -> Result<CaseRow, P
     ensures { Reads (read name.crow depth cursor.old) result cursor.new }
 {
     let pattern = read!(pattern(alloc, cursor, depth));
-    read!(cursor.expect(Kind::Arrow, depth));
+    read!(cursor.expect(TokenKind::Arrow, depth));
     let body = read!(body(alloc, cursor, depth));
     Ok(CaseRow { pattern, body })
 }

@@ -5,14 +5,14 @@ ghost use Rattle.campl_grammar.specs.Rules.{read};
 ghost use Rattle.campl_grammar.specs.Names as name;
 ghost use Rattle.campl_parse_terms.specs.Reads.{Reads};
 
-use campl_grammar::Kind;
+use campl_lex::TokenKind;
 use campl_parse_terms::cursor::Cursor;
 use campl_parse_terms::error::ParseError;
 use campl_parse_terms::expr::some_exprs;
 use campl_parse_terms::names::names_behind;
 use campl_parse_terms::{made, read};
+use campl_terminals::Terminal;
 use campl_tree::Last;
-use campl_words::Word;
 use std::alloc::Global;
 
 /// `x |=| y`, `x |=| neg y`, or a process's call.
@@ -20,8 +20,8 @@ use std::alloc::Global;
 pub fn named(alloc: Global, cursor: &mut Cursor<'_>, depth: u32) -> Result<Last, ParseError>
     ensures { Reads (read name.named depth cursor.old) result cursor.new }
 {
-    let word = read!(cursor.expect(Kind::Lower, depth));
-    if cursor.at(Kind::Identity) {
+    let word = read!(cursor.expect(TokenKind::Lower, depth));
+    if cursor.at(TokenKind::Identity) {
         return identity(alloc, cursor, depth, word);
     }
     process_call(alloc, cursor, depth, word)
@@ -33,16 +33,13 @@ fn identity(
     alloc: Global,
     cursor: &mut Cursor<'_>,
     depth: u32,
-    word: &Word<'_>,
+    word: &Terminal<'_>,
 ) -> Result<Last, ParseError>
     ensures { Reads (and_then (read name.identity depth cursor.old) (λ make r. (Ok (make word.now), r))) result cursor.new }
 {
     let name = made!(word.name(alloc));
-    read!(cursor.expect(Kind::Identity, depth));
-    let negated = cursor.at(Kind::Neg);
-    if negated {
-        read!(cursor.expect(Kind::Neg, depth));
-    }
+    read!(cursor.expect(TokenKind::Identity, depth));
+    let negated = read!(cursor.take(TokenKind::Neg, depth)).is_some();
     let other = read!(cursor.lower(alloc, depth));
     Ok(Last::Identity(word.place(), name, negated, other))
 }
@@ -53,15 +50,15 @@ fn process_call(
     alloc: Global,
     cursor: &mut Cursor<'_>,
     depth: u32,
-    word: &Word<'_>,
+    word: &Terminal<'_>,
 ) -> Result<Last, ParseError>
     ensures { Reads (and_then (read name.process_call depth cursor.old) (λ make r. (Ok (make word.now), r))) result cursor.new }
 {
     let name = made!(word.name(alloc));
-    read!(cursor.expect(Kind::LeftParen, depth));
+    read!(cursor.expect(TokenKind::LeftParen, depth));
     let values = read!(some_exprs(alloc, cursor, depth + 1));
-    let inputs = read!(names_behind(alloc, cursor, Kind::Bar, depth + 1));
-    let outputs = read!(names_behind(alloc, cursor, Kind::FatArrow, depth + 1));
-    read!(cursor.expect(Kind::RightParen, depth + 1));
+    let inputs = read!(names_behind(alloc, cursor, TokenKind::Bar, depth + 1));
+    let outputs = read!(names_behind(alloc, cursor, TokenKind::FatArrow, depth + 1));
+    read!(cursor.expect(TokenKind::RightParen, depth + 1));
     Ok(Last::Call(word.place(), name, values, inputs, outputs))
 }

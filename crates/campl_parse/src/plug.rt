@@ -5,7 +5,7 @@ ghost use Rattle.campl_grammar.specs.Rules.{read};
 ghost use Rattle.campl_grammar.specs.Names as name;
 ghost use Rattle.campl_parse_terms.specs.Reads.{Reads};
 
-use campl_grammar::Kind;
+use campl_lex::TokenKind;
 use campl_parse_terms::cursor::Cursor;
 use campl_parse_terms::error::ParseError;
 use campl_parse_terms::types::ctype;
@@ -25,11 +25,10 @@ pub fn links(
     ensures { Reads (adds found (read name.links depth cursor.old)) result cursor.new }
 {
     made!(found.push(read!(link(alloc, cursor, depth))));
-    if !cursor.at(Kind::Comma) {
-        return Ok(found);
+    match read!(cursor.take(TokenKind::Comma, depth)) {
+        Some(_) => links(alloc, cursor, depth + 1, found),
+        None => Ok(found),
     }
-    read!(cursor.expect(Kind::Comma, depth));
-    links(alloc, cursor, depth + 1, found)
 }
 
 /// A channel's name and its type.
@@ -37,7 +36,7 @@ pub fn links(
 fn link(alloc: Global, cursor: &mut Cursor<'_>, depth: u32) -> Result<Link, ParseError>
     ensures { Reads (read name.link depth cursor.old) result cursor.new }
 {
-    let name = read!(cursor.lower_before(alloc, Kind::DoubleColon, depth));
+    let name = read!(cursor.lower_before(alloc, TokenKind::DoubleColon, depth));
     let channel_type = read!(ctype(alloc, cursor, depth));
     Ok(Link { name, channel_type })
 }

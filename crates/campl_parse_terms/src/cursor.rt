@@ -1,18 +1,19 @@
 //! The words that are still to read.
-ghost use Rattle.std.specs.Prelude.{◌≡◌, ◌≤◌, [], ◌∷◌, OnOk, MatchResult, IsTrue, ◌↔◌, length};
+ghost use Rattle.std.specs.Prelude.{◌≡◌, ◌≤◌, [], ◌∷◌, OnOk, IfOk, OnSome, MatchResult, IsTrue, ◌↔◌, length};
 ghost use Rattle.campl_gram.specs.Reading.{next_in, expect};
 ghost use Rattle.campl_gram.specs.Grammar.{place_at};
-ghost use Rattle.campl_grammar.specs.Word.{same, terminals};
+ghost use Rattle.campl_lex.specs.Kinds.{same};
+ghost use Rattle.campl_grammar.specs.Terminal.{terminals};
 ghost use Rattle.campl_grammar.specs.Rules.{piece, lower, upper, limit};
 ghost use Rattle.campl_parse_terms.specs.Pieces.{choice, lower_before, upper_before};
-ghost use Rattle.campl_parse_terms.specs.Reads.{Reads, Fails};
+ghost use Rattle.campl_parse_terms.specs.Reads.{Reads, Fails, Takes};
 
 use crate::error::ParseError;
 use crate::{made, read};
 use campl_gram::Fault;
-use campl_grammar::Kind;
+use campl_lex::TokenKind;
+use campl_terminals::Terminal;
 use campl_tree::{Ident, Place};
-use campl_words::Word;
 use std::alloc::Global;
 use std::marker::Model;
 
@@ -22,21 +23,21 @@ pub const DEPTH_MAX: u32 = 200;
 /// What is left of the words of a source. Contracts see it as the list of these words.
 #[derive(Drop)]
 pub struct Cursor<'a> {
-    rest: &'a [Word<'a>],
+    rest: &'a [Terminal<'a>],
 }
 
 impl<'a> Model for Cursor<'a> {
     ghost use Rattle.std.specs.Prelude.{List};
-    ghost use Rattle.campl_grammar.specs.Word.{Word};
+    ghost use Rattle.campl_grammar.specs.Terminal.{Terminal};
 
-    ghost Value = { List Word };
+    ghost Value = { List Terminal };
 
     ghost view = { λ c. c.rest.now };
 }
 
 /// Whether two kinds are the same.
-#[tactic(auto, unfolding(campl_grammar::specs::Word::same))]
-fn same_kind(a: Kind, b: Kind) -> bool
+#[tactic(auto, unfolding(campl_lex::specs::Kinds::same))]
+fn same_kind(a: TokenKind, b: TokenKind) -> bool
     ensures { result ≡ same a b }
 {
     a == b
@@ -44,15 +45,15 @@ fn same_kind(a: Kind, b: Kind) -> bool
 
 impl<'a> Cursor<'a> {
     /// Stands before the first of these words.
-    pub fn new(words: &'a [Word<'a>]) -> Cursor<'a>
+    pub fn new(words: &'a [Terminal<'a>]) -> Cursor<'a>
         ensures { result ≡ words.now }
     {
         Cursor { rest: words }
     }
 
     /// Whether the next word is of this kind.
-    #[tactic(auto, unfolding(campl_grammar::specs::Word::terminals))]
-    pub fn at(&self, kind: Kind) -> bool
+    #[tactic(auto, unfolding(campl_grammar::specs::Terminal::terminals))]
+    pub fn at(&self, kind: TokenKind) -> bool
         ensures { result ≡ next_in terminals (kind ∷ []) self.now }
     {
         match self.rest {
@@ -63,7 +64,7 @@ impl<'a> Cursor<'a> {
 
     /// Whether the next word is of one of these kinds.
     #[tactic(auto, using(crate::proofs::Starts::next_more))]
-    pub fn at_any(&self, kinds: &[Kind]) -> bool
+    pub fn at_any(&self, kinds: &[TokenKind]) -> bool
         ensures { result ≡ next_in terminals kinds.now self.now }
     {
         match kinds.split_first() {
@@ -73,7 +74,7 @@ impl<'a> Cursor<'a> {
     }
 
     /// The place of the next word, or no place where there is none.
-    #[tactic(auto, unfolding(campl_grammar::specs::Word::terminals))]
+    #[tactic(auto, unfolding(campl_grammar::specs::Terminal::terminals))]
     pub fn place(&self) -> Place
         ensures { result ≡ place_at terminals self.now }
     {
@@ -91,8 +92,8 @@ impl<'a> Cursor<'a> {
     }
 
     /// Takes a word of this kind, nested so deep.
-    #[tactic(auto, unfolding(campl_grammar::specs::Word::terminals))]
-    pub fn expect(&mut self, kind: Kind, depth: u32) -> Result<&'a Word<'a>, ParseError>
+    #[tactic(auto, unfolding(campl_grammar::specs::Terminal::terminals))]
+    pub fn expect(&mut self, kind: TokenKind, depth: u32) -> Result<&'a Terminal<'a>, ParseError>
         ensures reads { MatchResult result (λ word. expect terminals limit kind depth self.old ≡ (Ok word.now, self.new)) (λ e. Fails (expect terminals limit kind depth self.old) e self.new) }
         ensures shallow { OnOk result (depth ≤ 200) }
     {
@@ -111,11 +112,26 @@ impl<'a> Cursor<'a> {
         }
     }
 
+    /// Takes the next word, nested so deep, if it is of this kind.
+    pub fn take(
+        &mut self,
+        kind: TokenKind,
+        depth: u32,
+    ) -> Result<Option<&'a Terminal<'a>>, ParseError>
+        ensures reads { Takes kind depth self.old result self.new }
+        ensures shallow { IfOk result (λ found. OnSome found (depth ≤ 200)) }
+    {
+        if !self.at(kind) {
+            return Ok(None);
+        }
+        Ok(Some(read!(self.expect(kind, depth))))
+    }
+
     /// Takes a word of one of these kinds, and answers the value beside its kind.
     pub fn one_of<T: Copy>(
         &mut self,
-        first: (Kind, T),
-        others: &[(Kind, T)],
+        first: (TokenKind, T),
+        others: &[(TokenKind, T)],
         depth: u32,
     ) -> Result<T, ParseError>
         ensures reads { Reads (piece (choice first others.now) depth self.old) result self.new }
@@ -135,7 +151,7 @@ impl<'a> Cursor<'a> {
         ensures reads { Reads (piece lower depth self.old) result self.new }
         ensures shallow { OnOk result (depth ≤ 200) }
     {
-        let word = read!(self.expect(Kind::Lower, depth));
+        let word = read!(self.expect(TokenKind::Lower, depth));
         Ok(made!(word.ident(alloc)))
     }
 
@@ -144,7 +160,7 @@ impl<'a> Cursor<'a> {
         ensures reads { Reads (piece upper depth self.old) result self.new }
         ensures shallow { OnOk result (depth ≤ 200) }
     {
-        let word = read!(self.expect(Kind::Upper, depth));
+        let word = read!(self.expect(TokenKind::Upper, depth));
         Ok(made!(word.ident(alloc)))
     }
 
@@ -152,12 +168,12 @@ impl<'a> Cursor<'a> {
     pub fn lower_before(
         &mut self,
         alloc: Global,
-        kind: Kind,
+        kind: TokenKind,
         depth: u32,
     ) -> Result<Ident, ParseError>
         ensures { Reads (piece (lower_before kind) depth self.old) result self.new }
     {
-        let word = read!(self.expect(Kind::Lower, depth));
+        let word = read!(self.expect(TokenKind::Lower, depth));
         read!(self.expect(kind, depth));
         Ok(made!(word.ident(alloc)))
     }
@@ -166,12 +182,12 @@ impl<'a> Cursor<'a> {
     pub fn upper_before(
         &mut self,
         alloc: Global,
-        kind: Kind,
+        kind: TokenKind,
         depth: u32,
     ) -> Result<Ident, ParseError>
         ensures { Reads (piece (upper_before kind) depth self.old) result self.new }
     {
-        let word = read!(self.expect(Kind::Upper, depth));
+        let word = read!(self.expect(TokenKind::Upper, depth));
         read!(self.expect(kind, depth));
         Ok(made!(word.ident(alloc)))
     }

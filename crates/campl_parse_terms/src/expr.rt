@@ -2,11 +2,10 @@
 //!
 //! Nesting is counted by calls one deeper. It doesn't count `case` words that follow one another, so these are a loop.
 ghost use Rattle.std.specs.Prelude.{◌≡◌, ◌≤◌, Ok, suc};
-ghost use Rattle.campl_gram.specs.Grammar.{nt};
 ghost use Rattle.campl_gram.specs.Reading.{adds};
 ghost use Rattle.campl_grammar.specs.Names as name;
-ghost use Rattle.campl_grammar.specs.Rules.{read, piece, in_braces, some_exprs as some_exprs_piece};
-ghost use Rattle.campl_parse_terms.specs.Expressions.{without_case as without_case_piece, ends_case, ends_cases};
+ghost use Rattle.campl_grammar.specs.Rules.{read, piece, some_exprs as some_exprs_piece};
+ghost use Rattle.campl_parse_terms.specs.Expressions.{without_case as without_case_piece, ends_case, ends_cases, of_rows};
 ghost use Rattle.campl_parse_terms.specs.Reads.{Reads};
 
 mod atoms;
@@ -20,10 +19,10 @@ use self::cases::begin_cases;
 use self::literals::starts_expr;
 use crate::cursor::Cursor;
 use crate::error::ParseError;
-use crate::lines::block;
+use crate::lines::block_behind;
 use crate::pattern::pattern;
 use crate::{made, read};
-use campl_grammar::Kind;
+use campl_lex::TokenKind;
 use campl_tree::{Expr, ExprRow, Place};
 use sqlite_items::{Boxed, Items};
 use std::alloc::Global;
@@ -57,11 +56,10 @@ pub fn exprs(
     ensures { Reads (adds found (read name.exprs depth cursor.old)) result cursor.new }
 {
     made!(found.push(read!(expr(alloc, cursor, depth))));
-    if !cursor.at(Kind::Comma) {
-        return Ok(found);
+    match read!(cursor.take(TokenKind::Comma, depth)) {
+        Some(_) => exprs(alloc, cursor, depth + 1, found),
+        None => Ok(found),
     }
-    read!(cursor.expect(Kind::Comma, depth));
-    exprs(alloc, cursor, depth + 1, found)
 }
 
 /// An expression.
@@ -81,7 +79,7 @@ pub fn expr(alloc: Global, cursor: &mut Cursor<'_>, depth: u32) -> Result<Expr, 
 fn without_case(alloc: Global, cursor: &mut Cursor<'_>, depth: u32) -> Result<Expr, ParseError>
     ensures { Reads (piece without_case_piece depth cursor.old) result cursor.new }
 {
-    if cursor.at(Kind::If) {
+    if cursor.at(TokenKind::If) {
         return if_expr(alloc, cursor, depth);
     }
     disjunction(alloc, cursor, depth)
@@ -116,19 +114,19 @@ fn end_case(
 ) -> Result<Expr, ParseError>
     ensures { Reads (ends_case place depth (Ok scrutinee, cursor.old)) result cursor.new }
 {
-    read!(cursor.expect(Kind::Of, depth));
     let rows = read!(erows(alloc, cursor, depth));
     Ok(Expr::Case(place, made!(Boxed::new(alloc, scrutinee)), rows))
 }
 
-/// Rows in braces.
+/// `of` and rows in braces.
 #[cycle(expr)]
 fn erows(alloc: Global, cursor: &mut Cursor<'_>, depth: u32) -> Result<Items<ExprRow>, ParseError>
-    ensures { Reads (piece (in_braces (nt name.erows)) depth cursor.old) result cursor.new }
+    ensures { Reads (piece of_rows depth cursor.old) result cursor.new }
 {
-    block(
+    block_behind(
         alloc,
         cursor,
+        TokenKind::Of,
         depth,
         |cursor: &mut Cursor<'_>| -> Result<ExprRow, ParseError>
             requires { depth ≤ 200 }
@@ -144,7 +142,7 @@ fn erow(alloc: Global, cursor: &mut Cursor<'_>, depth: u32) -> Result<ExprRow, P
     ensures { Reads (read name.erow depth cursor.old) result cursor.new }
 {
     let pattern = read!(pattern(alloc, cursor, depth));
-    read!(cursor.expect(Kind::Arrow, depth));
+    read!(cursor.expect(TokenKind::Arrow, depth));
     let value = read!(expr(alloc, cursor, depth));
     Ok(ExprRow { pattern, value })
 }
@@ -155,11 +153,11 @@ fn erow(alloc: Global, cursor: &mut Cursor<'_>, depth: u32) -> Result<ExprRow, P
 fn if_expr(alloc: Global, cursor: &mut Cursor<'_>, depth: u32) -> Result<Expr, ParseError>
     ensures { Reads (read name.if_expr depth cursor.old) result cursor.new }
 {
-    let place = read!(cursor.expect(Kind::If, depth)).place();
+    let place = read!(cursor.expect(TokenKind::If, depth)).place();
     let test = read!(boxed_expr(alloc, cursor, depth + 1));
-    read!(cursor.expect(Kind::Then, depth + 1));
+    read!(cursor.expect(TokenKind::Then, depth + 1));
     let yes = read!(boxed_expr(alloc, cursor, depth + 1));
-    read!(cursor.expect(Kind::Else, depth + 1));
+    read!(cursor.expect(TokenKind::Else, depth + 1));
     let no = read!(boxed_expr(alloc, cursor, depth + 1));
     Ok(Expr::If(place, test, yes, no))
 }

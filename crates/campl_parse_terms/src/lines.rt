@@ -1,14 +1,14 @@
 //! Lines with `;` between them.
 ghost use Rattle.std.specs.Prelude.{◌≡◌, ◌≤◌, OnOk, List, suc};
 ghost use Rattle.campl_gram.specs.Reading.{Outcome};
-ghost use Rattle.campl_grammar.specs.Word as words;
-ghost use Rattle.campl_parse_terms.specs.Lines.{AreLines, ReadsLine, Shortens, in_block};
+ghost use Rattle.campl_grammar.specs.Terminal as words;
+ghost use Rattle.campl_parse_terms.specs.Lines.{AreLines, ReadsLine, Shortens, behind_word, in_block};
 ghost use Rattle.campl_parse_terms.specs.Reads.{Reads};
 
 use crate::cursor::Cursor;
 use crate::error::ParseError;
 use crate::{made, read};
-use campl_grammar::Kind;
+use campl_lex::TokenKind;
 use sqlite_items::Items;
 use std::alloc::Global;
 
@@ -21,15 +21,15 @@ pub fn lines<T: Drop, F: Fn(&mut Cursor<'_>) -> Result<T, ParseError>>(
 ) -> Result<Items<T>, ParseError>
     requires callable { F.IsAlwaysCallable line }
     requires shortens { Shortens F.Fn line }
-    ensures { (one : List words.Word → Outcome words.Word T) (all : List words.Word → Outcome words.Word (List T)) → AreLines depth one all → ReadsLine F.Fn line one → Reads (all cursor.old) result cursor.new }
+    ensures { (one : List words.Terminal → Outcome words.Terminal T) (all : List words.Terminal → Outcome words.Terminal (List T)) → AreLines depth one all → ReadsLine F.Fn line one → Reads (all cursor.old) result cursor.new }
 {
     let mut found = Items::new(alloc);
     'lines: loop {
         made!(found.push(read!(line(cursor))));
-        if !cursor.at(Kind::Semicolon) {
+        if !cursor.at(TokenKind::Semicolon) {
             return Ok(found);
         }
-        read!(cursor.expect(Kind::Semicolon, depth));
+        read!(cursor.expect(TokenKind::Semicolon, depth));
     }
 }
 
@@ -42,10 +42,28 @@ pub fn block<T: Drop, F: Fn(&mut Cursor<'_>) -> Result<T, ParseError>>(
 ) -> Result<Items<T>, ParseError>
     requires callable { depth ≤ 200 → F.IsAlwaysCallable line }
     requires shortens { Shortens F.Fn line }
-    ensures { (one : List words.Word → Outcome words.Word T) (all : List words.Word → Outcome words.Word (List T)) → AreLines (suc depth) one all → ReadsLine F.Fn line one → Reads (in_block all depth cursor.old) result cursor.new }
+    ensures { (one : List words.Terminal → Outcome words.Terminal T) (all : List words.Terminal → Outcome words.Terminal (List T)) → AreLines (suc depth) one all → ReadsLine F.Fn line one → Reads (in_block all depth cursor.old) result cursor.new }
 {
-    read!(cursor.expect(Kind::LeftBrace, depth));
+    read!(cursor.expect(TokenKind::LeftBrace, depth));
     let found = read!(lines(alloc, cursor, depth + 1, line));
-    read!(cursor.expect(Kind::RightBrace, depth + 1));
+    read!(cursor.expect(TokenKind::RightBrace, depth + 1));
     Ok(found)
+}
+
+/// Takes a word of this kind, and reads the block behind it.
+pub fn block_behind<T: Drop, F: Fn(&mut Cursor<'_>) -> Result<T, ParseError>>(
+    alloc: Global,
+    cursor: &mut Cursor<'_>,
+    kind: TokenKind,
+    depth: u32,
+    line: F,
+) -> Result<Items<T>, ParseError>
+    requires callable { depth ≤ 200 → F.IsAlwaysCallable line }
+    requires shortens { Shortens F.Fn line }
+    ensures { (one : List words.Terminal → Outcome words.Terminal T) (all : List words.Terminal → Outcome words.Terminal (List T)) → AreLines (suc depth) one all → ReadsLine F.Fn line one → Reads (behind_word kind (in_block all) depth cursor.old) result cursor.new }
+{
+    match cursor.expect(kind, depth) {
+        Ok(_) => block(alloc, cursor, depth, line),
+        Err(fault) => Err(fault),
+    }
 }

@@ -1,17 +1,17 @@
 //! Lists of names, and what a process names for a value.
-ghost use Rattle.std.specs.Prelude.{◌≡◌, OnOk, ◌≤◌};
+ghost use Rattle.std.specs.Prelude.{◌≡◌};
 ghost use Rattle.campl_gram.specs.Reading.{adds, next_in};
-ghost use Rattle.campl_grammar.specs.Word.{terminals};
+ghost use Rattle.campl_grammar.specs.Terminal.{terminals};
 ghost use Rattle.campl_grammar.specs.Tables.{starts};
 ghost use Rattle.campl_grammar.specs.Rules.{read, piece, some_vars as some_vars_piece};
-ghost use Rattle.campl_grammar.specs.Names.{parameters as parameters_name, names as names_name, idents as idents_name, vars as vars_name, var as var_name};
+ghost use Rattle.campl_grammar.specs.Names as name;
 ghost use Rattle.campl_parse_terms.specs.Pieces.{names_behind as names_behind_piece};
 ghost use Rattle.campl_parse_terms.specs.Reads.{Reads};
 
 use crate::cursor::Cursor;
 use crate::error::ParseError;
 use crate::{made, read};
-use campl_grammar::Kind;
+use campl_lex::TokenKind;
 use campl_tree::{Binder, Ident};
 use sqlite_items::Items;
 use std::alloc::Global;
@@ -23,25 +23,24 @@ pub fn parameters(
     cursor: &mut Cursor<'_>,
     depth: u32,
 ) -> Result<Items<Ident>, ParseError>
-    ensures { Reads (read parameters_name depth cursor.old) result cursor.new }
+    ensures { Reads (read name.parameters depth cursor.old) result cursor.new }
 {
     let none = Items::new(alloc);
-    if !cursor.at(Kind::LeftParen) {
+    if read!(cursor.take(TokenKind::LeftParen, depth)).is_none() {
         return Ok(none);
     }
-    read!(cursor.expect(Kind::LeftParen, depth));
     let found = read!(idents(alloc, cursor, depth + 1, none));
-    read!(cursor.expect(Kind::RightParen, depth + 1));
+    read!(cursor.expect(TokenKind::RightParen, depth + 1));
     Ok(found)
 }
 
 /// Names with commas between them, or none.
 #[tactic(auto, using(campl_grammar::proofs::ByRule::reads_names, campl_gram::proofs::Lists::adds_none))]
 pub fn names(alloc: Global, cursor: &mut Cursor<'_>, depth: u32) -> Result<Items<Ident>, ParseError>
-    ensures { Reads (read names_name depth cursor.old) result cursor.new }
+    ensures { Reads (read name.names depth cursor.old) result cursor.new }
 {
     let found = Items::new(alloc);
-    if !cursor.at(Kind::Lower) {
+    if !cursor.at(TokenKind::Lower) {
         return Ok(found);
     }
     idents(alloc, cursor, depth, found)
@@ -51,7 +50,7 @@ pub fn names(alloc: Global, cursor: &mut Cursor<'_>, depth: u32) -> Result<Items
 pub fn names_behind(
     alloc: Global,
     cursor: &mut Cursor<'_>,
-    kind: Kind,
+    kind: TokenKind,
     depth: u32,
 ) -> Result<Items<Ident>, ParseError>
     ensures { Reads (piece (names_behind_piece kind) depth cursor.old) result cursor.new }
@@ -68,21 +67,20 @@ pub fn idents(
     depth: u32,
     mut found: Items<Ident>,
 ) -> Result<Items<Ident>, ParseError>
-    ensures { Reads (adds found (read idents_name depth cursor.old)) result cursor.new }
+    ensures { Reads (adds found (read name.idents depth cursor.old)) result cursor.new }
 {
     made!(found.push(read!(cursor.lower(alloc, depth))));
-    if !cursor.at(Kind::Comma) {
-        return Ok(found);
+    match read!(cursor.take(TokenKind::Comma, depth)) {
+        Some(_) => idents(alloc, cursor, depth + 1, found),
+        None => Ok(found),
     }
-    read!(cursor.expect(Kind::Comma, depth));
-    idents(alloc, cursor, depth + 1, found)
 }
 
 /// Whether a name or `_` is the next word.
 fn starts_var(cursor: &Cursor<'_>) -> bool
-    ensures { result ≡ next_in terminals (starts var_name) cursor.now }
+    ensures { result ≡ next_in terminals (starts name.var) cursor.now }
 {
-    cursor.at_any(&[Kind::Lower, Kind::Wildcard])
+    cursor.at_any(&[TokenKind::Lower, TokenKind::Wildcard])
 }
 
 /// Names or `_` with commas between them, or none.
@@ -109,25 +107,23 @@ fn vars(
     depth: u32,
     mut found: Items<Binder>,
 ) -> Result<Items<Binder>, ParseError>
-    ensures { Reads (adds found (read vars_name depth cursor.old)) result cursor.new }
+    ensures { Reads (adds found (read name.vars depth cursor.old)) result cursor.new }
 {
     made!(found.push(read!(var(alloc, cursor, depth))));
-    if !cursor.at(Kind::Comma) {
-        return Ok(found);
+    match read!(cursor.take(TokenKind::Comma, depth)) {
+        Some(_) => vars(alloc, cursor, depth + 1, found),
+        None => Ok(found),
     }
-    read!(cursor.expect(Kind::Comma, depth));
-    vars(alloc, cursor, depth + 1, found)
 }
 
 /// A name, or `_`.
 #[tactic(auto, using(campl_grammar::proofs::ByRule::reads_var))]
 pub fn var(alloc: Global, cursor: &mut Cursor<'_>, depth: u32) -> Result<Binder, ParseError>
-    ensures { Reads (read var_name depth cursor.old) result cursor.new }
+    ensures { Reads (read name.var depth cursor.old) result cursor.new }
 {
-    if cursor.at(Kind::Lower) {
-        let word = read!(cursor.expect(Kind::Lower, depth));
+    if let Some(word) = read!(cursor.take(TokenKind::Lower, depth)) {
         return Ok(Binder::Variable(word.place(), made!(word.name(alloc))));
     }
-    let word = read!(cursor.expect(Kind::Wildcard, depth));
+    let word = read!(cursor.expect(TokenKind::Wildcard, depth));
     Ok(Binder::Wildcard(word.place()))
 }

@@ -1,7 +1,7 @@
 //! Patterns.
 ghost use Rattle.std.specs.Prelude.{◌≡◌};
 ghost use Rattle.campl_gram.specs.Reading.{next_in, adds};
-ghost use Rattle.campl_grammar.specs.Word.{terminals};
+ghost use Rattle.campl_grammar.specs.Terminal.{terminals};
 ghost use Rattle.campl_grammar.specs.Tables.{starts};
 ghost use Rattle.campl_grammar.specs.Rules.{read, piece, some_patterns as some_patterns_piece};
 ghost use Rattle.campl_grammar.specs.Names as name;
@@ -11,7 +11,7 @@ ghost use Rattle.campl_parse_terms.specs.Reads.{Reads};
 use crate::cursor::Cursor;
 use crate::error::ParseError;
 use crate::{made, read};
-use campl_grammar::Kind;
+use campl_lex::TokenKind;
 use campl_tree::Pattern;
 use sqlite_items::{Boxed, Items};
 use std::alloc::Global;
@@ -21,14 +21,14 @@ fn starts_simple(cursor: &Cursor<'_>) -> bool
     ensures { result ≡ next_in terminals (starts name.simple_pattern) cursor.now }
 {
     let kinds = [
-        Kind::Wildcard,
-        Kind::Lower,
-        Kind::Number,
-        Kind::Minus,
-        Kind::Character,
-        Kind::Text,
-        Kind::True,
-        Kind::False,
+        TokenKind::Wildcard,
+        TokenKind::Lower,
+        TokenKind::Number,
+        TokenKind::Minus,
+        TokenKind::Character,
+        TokenKind::Text,
+        TokenKind::True,
+        TokenKind::False,
     ];
     cursor.at_any(&kinds)
 }
@@ -38,17 +38,17 @@ fn starts_pattern(cursor: &Cursor<'_>) -> bool
     ensures { result ≡ next_in terminals (starts name.patterns) cursor.now }
 {
     let kinds = [
-        Kind::Wildcard,
-        Kind::Lower,
-        Kind::Number,
-        Kind::Minus,
-        Kind::Character,
-        Kind::Text,
-        Kind::True,
-        Kind::False,
-        Kind::Upper,
-        Kind::LeftBracket,
-        Kind::LeftParen,
+        TokenKind::Wildcard,
+        TokenKind::Lower,
+        TokenKind::Number,
+        TokenKind::Minus,
+        TokenKind::Character,
+        TokenKind::Text,
+        TokenKind::True,
+        TokenKind::False,
+        TokenKind::Upper,
+        TokenKind::LeftBracket,
+        TokenKind::LeftParen,
     ];
     cursor.at_any(&kinds)
 }
@@ -61,28 +61,23 @@ fn literal_pattern(
 ) -> Result<Pattern, ParseError>
     ensures { Reads (piece literal_pattern_piece depth cursor.old) result cursor.new }
 {
-    if cursor.at(Kind::Number) {
-        let word = read!(cursor.expect(Kind::Number, depth));
+    if let Some(word) = read!(cursor.take(TokenKind::Number, depth)) {
         return Ok(Pattern::Number(word.place(), word.number()));
     }
-    if cursor.at(Kind::Minus) {
-        let place = read!(cursor.expect(Kind::Minus, depth)).place();
-        let word = read!(cursor.expect(Kind::Number, depth));
-        return Ok(Pattern::Negative(place, word.number()));
+    if let Some(minus) = read!(cursor.take(TokenKind::Minus, depth)) {
+        let word = read!(cursor.expect(TokenKind::Number, depth));
+        return Ok(Pattern::Negative(minus.place(), word.number()));
     }
-    if cursor.at(Kind::Character) {
-        let word = read!(cursor.expect(Kind::Character, depth));
+    if let Some(word) = read!(cursor.take(TokenKind::Character, depth)) {
         return Ok(Pattern::Character(word.place(), word.character()));
     }
-    if cursor.at(Kind::Text) {
-        let word = read!(cursor.expect(Kind::Text, depth));
+    if let Some(word) = read!(cursor.take(TokenKind::Text, depth)) {
         return Ok(Pattern::Text(word.place(), made!(word.text(alloc))));
     }
-    if cursor.at(Kind::True) {
-        let word = read!(cursor.expect(Kind::True, depth));
+    if let Some(word) = read!(cursor.take(TokenKind::True, depth)) {
         return Ok(Pattern::True(word.place()));
     }
-    let word = read!(cursor.expect(Kind::False, depth));
+    let word = read!(cursor.expect(TokenKind::False, depth));
     Ok(Pattern::False(word.place()))
 }
 
@@ -91,12 +86,10 @@ fn literal_pattern(
 fn simple_pattern(alloc: Global, cursor: &mut Cursor<'_>, depth: u32) -> Result<Pattern, ParseError>
     ensures { Reads (read name.simple_pattern depth cursor.old) result cursor.new }
 {
-    if cursor.at(Kind::Wildcard) {
-        let word = read!(cursor.expect(Kind::Wildcard, depth));
+    if let Some(word) = read!(cursor.take(TokenKind::Wildcard, depth)) {
         return Ok(Pattern::Wildcard(word.place()));
     }
-    if cursor.at(Kind::Lower) {
-        let word = read!(cursor.expect(Kind::Lower, depth));
+    if let Some(word) = read!(cursor.take(TokenKind::Lower, depth)) {
         return Ok(Pattern::Variable(word.place(), made!(word.name(alloc))));
     }
     literal_pattern(alloc, cursor, depth)
@@ -111,10 +104,10 @@ fn patom(alloc: Global, cursor: &mut Cursor<'_>, depth: u32) -> Result<Pattern, 
     if starts_simple(cursor) {
         return simple_pattern(alloc, cursor, depth);
     }
-    if cursor.at(Kind::Upper) {
+    if cursor.at(TokenKind::Upper) {
         return constructor_pattern(alloc, cursor, depth);
     }
-    if cursor.at(Kind::LeftBracket) {
+    if cursor.at(TokenKind::LeftBracket) {
         return list_pattern(alloc, cursor, depth);
     }
     grouped_pattern(alloc, cursor, depth)
@@ -130,15 +123,14 @@ fn constructor_pattern(
 ) -> Result<Pattern, ParseError>
     ensures { Reads (read name.constructor_pattern depth cursor.old) result cursor.new }
 {
-    let word = read!(cursor.expect(Kind::Upper, depth));
+    let word = read!(cursor.expect(TokenKind::Upper, depth));
     let name = made!(word.name(alloc));
     let parts = Items::new(alloc);
-    if !cursor.at(Kind::LeftParen) {
+    if read!(cursor.take(TokenKind::LeftParen, depth)).is_none() {
         return Ok(Pattern::Constructor(word.place(), name, parts));
     }
-    read!(cursor.expect(Kind::LeftParen, depth));
     let parts = read!(patterns(alloc, cursor, depth + 1, parts));
-    read!(cursor.expect(Kind::RightParen, depth + 1));
+    read!(cursor.expect(TokenKind::RightParen, depth + 1));
     Ok(Pattern::Constructor(word.place(), name, parts))
 }
 
@@ -149,9 +141,9 @@ fn list_pattern(alloc: Global, cursor: &mut Cursor<'_>, depth: u32) -> Result<Pa
     ensures { Reads (read name.list_pattern depth cursor.old) result cursor.new }
 {
     let place = cursor.place();
-    read!(cursor.expect(Kind::LeftBracket, depth));
+    read!(cursor.expect(TokenKind::LeftBracket, depth));
     let parts = read!(some_patterns(alloc, cursor, depth + 1));
-    read!(cursor.expect(Kind::RightBracket, depth + 1));
+    read!(cursor.expect(TokenKind::RightBracket, depth + 1));
     Ok(Pattern::List(place, parts))
 }
 
@@ -166,15 +158,14 @@ fn grouped_pattern(
     ensures { Reads (read name.grouped_pattern depth cursor.old) result cursor.new }
 {
     let place = cursor.place();
-    read!(cursor.expect(Kind::LeftParen, depth));
+    read!(cursor.expect(TokenKind::LeftParen, depth));
     let left = read!(pattern(alloc, cursor, depth + 1));
-    if !cursor.at(Kind::Comma) {
-        read!(cursor.expect(Kind::RightParen, depth + 1));
+    if read!(cursor.take(TokenKind::Comma, depth + 1)).is_none() {
+        read!(cursor.expect(TokenKind::RightParen, depth + 1));
         return Ok(left);
     }
-    read!(cursor.expect(Kind::Comma, depth + 1));
     let right = read!(pattern(alloc, cursor, depth + 2));
-    read!(cursor.expect(Kind::RightParen, depth + 1));
+    read!(cursor.expect(TokenKind::RightParen, depth + 1));
     let left = made!(Boxed::new(alloc, left));
     Ok(Pattern::Pair(place, left, made!(Boxed::new(alloc, right))))
 }
@@ -187,10 +178,9 @@ pub fn pattern(alloc: Global, cursor: &mut Cursor<'_>, depth: u32) -> Result<Pat
 {
     let place = cursor.place();
     let left = read!(patom(alloc, cursor, depth));
-    if !cursor.at(Kind::Colon) {
+    if read!(cursor.take(TokenKind::Colon, depth)).is_none() {
         return Ok(left);
     }
-    read!(cursor.expect(Kind::Colon, depth));
     let right = read!(pattern(alloc, cursor, depth + 1));
     let left = made!(Boxed::new(alloc, left));
     Ok(Pattern::Cons(place, left, made!(Boxed::new(alloc, right))))
@@ -208,11 +198,10 @@ fn patterns(
     ensures { Reads (adds found (read name.patterns depth cursor.old)) result cursor.new }
 {
     made!(found.push(read!(pattern(alloc, cursor, depth))));
-    if !cursor.at(Kind::Comma) {
-        return Ok(found);
+    match read!(cursor.take(TokenKind::Comma, depth)) {
+        Some(_) => patterns(alloc, cursor, depth + 1, found),
+        None => Ok(found),
     }
-    read!(cursor.expect(Kind::Comma, depth));
-    patterns(alloc, cursor, depth + 1, found)
 }
 
 /// Patterns with commas between them, or none.

@@ -1,7 +1,7 @@
 //! Types of values and of channels.
 ghost use Rattle.std.specs.Prelude.{◌≡◌, ◌≤◌, OnOk};
 ghost use Rattle.campl_gram.specs.Reading.{adds, next_in};
-ghost use Rattle.campl_grammar.specs.Word.{terminals};
+ghost use Rattle.campl_grammar.specs.Terminal.{terminals};
 ghost use Rattle.campl_grammar.specs.Names as name;
 ghost use Rattle.campl_grammar.specs.Tables.{starts};
 ghost use Rattle.campl_grammar.specs.Rules.{read, piece, some_stypes as some_stypes_piece, some_ctypes as some_ctypes_piece};
@@ -11,7 +11,7 @@ ghost use Rattle.campl_parse_terms.specs.Reads.{Reads};
 use crate::cursor::Cursor;
 use crate::error::ParseError;
 use crate::{made, read};
-use campl_grammar::Kind;
+use campl_lex::TokenKind;
 use campl_tree::{ChanType, SeqType};
 use sqlite_items::{Boxed, Items};
 use std::alloc::Global;
@@ -21,13 +21,13 @@ fn starts_stype(cursor: &Cursor<'_>) -> bool
     ensures { result ≡ next_in terminals (starts name.stype) cursor.now }
 {
     let kinds = [
-        Kind::IntType,
-        Kind::CharType,
-        Kind::BoolType,
-        Kind::LeftBracket,
-        Kind::Lower,
-        Kind::Upper,
-        Kind::LeftParen,
+        TokenKind::IntType,
+        TokenKind::CharType,
+        TokenKind::BoolType,
+        TokenKind::LeftBracket,
+        TokenKind::Lower,
+        TokenKind::Upper,
+        TokenKind::LeftParen,
     ];
     cursor.at_any(&kinds)
 }
@@ -60,11 +60,10 @@ fn stypes(
     ensures { Reads (adds found (read name.stypes depth cursor.old)) result cursor.new }
 {
     made!(found.push(read!(stype(alloc, cursor, depth))));
-    if !cursor.at(Kind::Comma) {
-        return Ok(found);
+    match read!(cursor.take(TokenKind::Comma, depth)) {
+        Some(_) => stypes(alloc, cursor, depth + 1, found),
+        None => Ok(found),
     }
-    read!(cursor.expect(Kind::Comma, depth));
-    stypes(alloc, cursor, depth + 1, found)
 }
 
 /// The type of a value.
@@ -73,19 +72,16 @@ fn stypes(
 pub fn stype(alloc: Global, cursor: &mut Cursor<'_>, depth: u32) -> Result<SeqType, ParseError>
     ensures { Reads (read name.stype depth cursor.old) result cursor.new }
 {
-    if cursor.at(Kind::IntType) {
-        read!(cursor.expect(Kind::IntType, depth));
+    if read!(cursor.take(TokenKind::IntType, depth)).is_some() {
         return Ok(SeqType::Int);
     }
-    if cursor.at(Kind::CharType) {
-        read!(cursor.expect(Kind::CharType, depth));
+    if read!(cursor.take(TokenKind::CharType, depth)).is_some() {
         return Ok(SeqType::Char);
     }
-    if cursor.at(Kind::BoolType) {
-        read!(cursor.expect(Kind::BoolType, depth));
+    if read!(cursor.take(TokenKind::BoolType, depth)).is_some() {
         return Ok(SeqType::Bool);
     }
-    if cursor.at(Kind::LeftBracket) {
+    if cursor.at(TokenKind::LeftBracket) {
         return list_type(alloc, cursor, depth);
     }
     named_or_grouped(alloc, cursor, depth)
@@ -96,9 +92,9 @@ pub fn stype(alloc: Global, cursor: &mut Cursor<'_>, depth: u32) -> Result<SeqTy
 fn list_type(alloc: Global, cursor: &mut Cursor<'_>, depth: u32) -> Result<SeqType, ParseError>
     ensures { Reads (piece list_type_piece depth cursor.old) result cursor.new }
 {
-    read!(cursor.expect(Kind::LeftBracket, depth));
+    read!(cursor.expect(TokenKind::LeftBracket, depth));
     let inner = read!(stype(alloc, cursor, depth + 1));
-    read!(cursor.expect(Kind::RightBracket, depth + 1));
+    read!(cursor.expect(TokenKind::RightBracket, depth + 1));
     Ok(SeqType::List(made!(Boxed::new(alloc, inner))))
 }
 
@@ -111,12 +107,10 @@ fn named_or_grouped(
 ) -> Result<SeqType, ParseError>
     ensures { Reads (piece named_or_grouped_piece depth cursor.old) result cursor.new }
 {
-    if cursor.at(Kind::Lower) {
-        let word = read!(cursor.expect(Kind::Lower, depth));
+    if let Some(word) = read!(cursor.take(TokenKind::Lower, depth)) {
         return Ok(SeqType::Variable(word.place(), made!(word.name(alloc))));
     }
-    if cursor.at(Kind::Upper) {
-        let word = read!(cursor.expect(Kind::Upper, depth));
+    if let Some(word) = read!(cursor.take(TokenKind::Upper, depth)) {
         let name = made!(word.name(alloc));
         let arguments = read!(type_arguments(alloc, cursor, depth));
         return Ok(SeqType::Named(word.place(), name, arguments));
@@ -130,15 +124,14 @@ fn named_or_grouped(
 fn grouped_type(alloc: Global, cursor: &mut Cursor<'_>, depth: u32) -> Result<SeqType, ParseError>
     ensures { Reads (read name.grouped_type depth cursor.old) result cursor.new }
 {
-    read!(cursor.expect(Kind::LeftParen, depth));
+    read!(cursor.expect(TokenKind::LeftParen, depth));
     let first = read!(stype(alloc, cursor, depth + 1));
-    if !cursor.at(Kind::Comma) {
-        read!(cursor.expect(Kind::RightParen, depth + 1));
+    if read!(cursor.take(TokenKind::Comma, depth + 1)).is_none() {
+        read!(cursor.expect(TokenKind::RightParen, depth + 1));
         return Ok(first);
     }
-    read!(cursor.expect(Kind::Comma, depth + 1));
     let second = read!(stype(alloc, cursor, depth + 2));
-    read!(cursor.expect(Kind::RightParen, depth + 1));
+    read!(cursor.expect(TokenKind::RightParen, depth + 1));
     Ok(SeqType::Pair(
         made!(Boxed::new(alloc, first)),
         made!(Boxed::new(alloc, second)),
@@ -156,12 +149,11 @@ pub fn type_arguments(
     ensures { Reads (read name.type_arguments depth cursor.old) result cursor.new }
 {
     let none = Items::new(alloc);
-    if !cursor.at(Kind::LeftParen) {
+    if read!(cursor.take(TokenKind::LeftParen, depth)).is_none() {
         return Ok(none);
     }
-    read!(cursor.expect(Kind::LeftParen, depth));
     let found = read!(stypes(alloc, cursor, depth + 1, none));
-    read!(cursor.expect(Kind::RightParen, depth + 1));
+    read!(cursor.expect(TokenKind::RightParen, depth + 1));
     Ok(found)
 }
 
@@ -170,12 +162,12 @@ fn starts_ctype(cursor: &Cursor<'_>) -> bool
     ensures { result ≡ next_in terminals (starts name.ctype) cursor.now }
 {
     let kinds = [
-        Kind::PutType,
-        Kind::GetType,
-        Kind::NegType,
-        Kind::TopBot,
-        Kind::Upper,
-        Kind::LeftParen,
+        TokenKind::PutType,
+        TokenKind::GetType,
+        TokenKind::NegType,
+        TokenKind::TopBot,
+        TokenKind::Upper,
+        TokenKind::LeftParen,
     ];
     cursor.at_any(&kinds)
 }
@@ -207,11 +199,10 @@ fn ctypes(
     ensures { Reads (adds found (read name.ctypes depth cursor.old)) result cursor.new }
 {
     made!(found.push(read!(ctype(alloc, cursor, depth))));
-    if !cursor.at(Kind::Comma) {
-        return Ok(found);
+    match read!(cursor.take(TokenKind::Comma, depth)) {
+        Some(_) => ctypes(alloc, cursor, depth + 1, found),
+        None => Ok(found),
     }
-    read!(cursor.expect(Kind::Comma, depth));
-    ctypes(alloc, cursor, depth + 1, found)
 }
 
 /// The type of a channel.
@@ -221,10 +212,10 @@ pub fn ctype(alloc: Global, cursor: &mut Cursor<'_>, depth: u32) -> Result<ChanT
     ensures { Reads (read name.ctype depth cursor.old) result cursor.new }
 {
     let left = read!(catom(alloc, cursor, depth));
-    if cursor.at(Kind::Tensor) {
+    if cursor.at(TokenKind::Tensor) {
         return tensor(alloc, cursor, depth, left);
     }
-    if cursor.at(Kind::Par) {
+    if cursor.at(TokenKind::Par) {
         return par(alloc, cursor, depth, left);
     }
     Ok(left)
@@ -240,7 +231,7 @@ fn tensor(
 ) -> Result<ChanType, ParseError>
     ensures { Reads (of_left left (piece tensor_piece depth cursor.old)) result cursor.new }
 {
-    read!(cursor.expect(Kind::Tensor, depth));
+    read!(cursor.expect(TokenKind::Tensor, depth));
     let right = read!(catom(alloc, cursor, depth + 1));
     Ok(ChanType::Tensor(
         made!(Boxed::new(alloc, left)),
@@ -258,7 +249,7 @@ fn par(
 ) -> Result<ChanType, ParseError>
     ensures { Reads (of_left left (piece par_piece depth cursor.old)) result cursor.new }
 {
-    read!(cursor.expect(Kind::Par, depth));
+    read!(cursor.expect(TokenKind::Par, depth));
     let right = read!(catom(alloc, cursor, depth + 1));
     Ok(ChanType::Par(
         made!(Boxed::new(alloc, left)),
@@ -272,20 +263,19 @@ fn par(
 fn catom(alloc: Global, cursor: &mut Cursor<'_>, depth: u32) -> Result<ChanType, ParseError>
     ensures { Reads (read name.catom depth cursor.old) result cursor.new }
 {
-    if cursor.at(Kind::PutType) {
+    if cursor.at(TokenKind::PutType) {
         return put_type(alloc, cursor, depth);
     }
-    if cursor.at(Kind::GetType) {
+    if cursor.at(TokenKind::GetType) {
         return get_type(alloc, cursor, depth);
     }
-    if cursor.at(Kind::NegType) {
+    if cursor.at(TokenKind::NegType) {
         return neg_type(alloc, cursor, depth);
     }
-    if cursor.at(Kind::TopBot) {
-        read!(cursor.expect(Kind::TopBot, depth));
+    if read!(cursor.take(TokenKind::TopBot, depth)).is_some() {
         return Ok(ChanType::TopBot);
     }
-    if cursor.at(Kind::Upper) {
+    if cursor.at(TokenKind::Upper) {
         return named_type(alloc, cursor, depth);
     }
     grouped_ctype(alloc, cursor, depth)
@@ -296,7 +286,7 @@ fn catom(alloc: Global, cursor: &mut Cursor<'_>, depth: u32) -> Result<ChanType,
 fn named_type(alloc: Global, cursor: &mut Cursor<'_>, depth: u32) -> Result<ChanType, ParseError>
     ensures { Reads (read name.named_type depth cursor.old) result cursor.new }
 {
-    let word = read!(cursor.expect(Kind::Upper, depth));
+    let word = read!(cursor.expect(TokenKind::Upper, depth));
     let name = made!(word.name(alloc));
     let arguments = read!(type_arguments(alloc, cursor, depth));
     Ok(ChanType::Named(word.place(), name, arguments))
@@ -308,9 +298,9 @@ fn named_type(alloc: Global, cursor: &mut Cursor<'_>, depth: u32) -> Result<Chan
 fn grouped_ctype(alloc: Global, cursor: &mut Cursor<'_>, depth: u32) -> Result<ChanType, ParseError>
     ensures { Reads (read name.grouped_ctype depth cursor.old) result cursor.new }
 {
-    read!(cursor.expect(Kind::LeftParen, depth));
+    read!(cursor.expect(TokenKind::LeftParen, depth));
     let inner = read!(ctype(alloc, cursor, depth + 1));
-    read!(cursor.expect(Kind::RightParen, depth + 1));
+    read!(cursor.expect(TokenKind::RightParen, depth + 1));
     Ok(inner)
 }
 
@@ -320,12 +310,12 @@ fn grouped_ctype(alloc: Global, cursor: &mut Cursor<'_>, depth: u32) -> Result<C
 fn put_type(alloc: Global, cursor: &mut Cursor<'_>, depth: u32) -> Result<ChanType, ParseError>
     ensures { Reads (read name.put_type depth cursor.old) result cursor.new }
 {
-    read!(cursor.expect(Kind::PutType, depth));
-    read!(cursor.expect(Kind::LeftParen, depth));
+    read!(cursor.expect(TokenKind::PutType, depth));
+    read!(cursor.expect(TokenKind::LeftParen, depth));
     let value = read!(stype(alloc, cursor, depth + 1));
-    read!(cursor.expect(Kind::Bar, depth + 1));
+    read!(cursor.expect(TokenKind::Bar, depth + 1));
     let rest = read!(ctype(alloc, cursor, depth + 1));
-    read!(cursor.expect(Kind::RightParen, depth + 1));
+    read!(cursor.expect(TokenKind::RightParen, depth + 1));
     Ok(ChanType::Put(value, made!(Boxed::new(alloc, rest))))
 }
 
@@ -335,12 +325,12 @@ fn put_type(alloc: Global, cursor: &mut Cursor<'_>, depth: u32) -> Result<ChanTy
 fn get_type(alloc: Global, cursor: &mut Cursor<'_>, depth: u32) -> Result<ChanType, ParseError>
     ensures { Reads (read name.get_type depth cursor.old) result cursor.new }
 {
-    read!(cursor.expect(Kind::GetType, depth));
-    read!(cursor.expect(Kind::LeftParen, depth));
+    read!(cursor.expect(TokenKind::GetType, depth));
+    read!(cursor.expect(TokenKind::LeftParen, depth));
     let value = read!(stype(alloc, cursor, depth + 1));
-    read!(cursor.expect(Kind::Bar, depth + 1));
+    read!(cursor.expect(TokenKind::Bar, depth + 1));
     let rest = read!(ctype(alloc, cursor, depth + 1));
-    read!(cursor.expect(Kind::RightParen, depth + 1));
+    read!(cursor.expect(TokenKind::RightParen, depth + 1));
     Ok(ChanType::Get(value, made!(Boxed::new(alloc, rest))))
 }
 
@@ -350,9 +340,9 @@ fn get_type(alloc: Global, cursor: &mut Cursor<'_>, depth: u32) -> Result<ChanTy
 fn neg_type(alloc: Global, cursor: &mut Cursor<'_>, depth: u32) -> Result<ChanType, ParseError>
     ensures { Reads (read name.neg_type depth cursor.old) result cursor.new }
 {
-    read!(cursor.expect(Kind::NegType, depth));
-    read!(cursor.expect(Kind::LeftParen, depth));
+    read!(cursor.expect(TokenKind::NegType, depth));
+    read!(cursor.expect(TokenKind::LeftParen, depth));
     let inner = read!(ctype(alloc, cursor, depth + 1));
-    read!(cursor.expect(Kind::RightParen, depth + 1));
+    read!(cursor.expect(TokenKind::RightParen, depth + 1));
     Ok(ChanType::Neg(made!(Boxed::new(alloc, inner))))
 }

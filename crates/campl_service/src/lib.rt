@@ -28,8 +28,6 @@ mod record;
 mod script;
 mod service;
 mod shown;
-#[cfg(test)]
-mod tests;
 mod transcript;
 
 pub use fault::ScriptFault;

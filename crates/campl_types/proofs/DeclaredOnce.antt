@@ -1,5 +1,5 @@
 -- Where no name is declared twice, what a name is found to be is what its declaration says, and each declaration
--- is found by its names: a type by its own, and a constructor, with its number, by its line's.
+-- is found by its names: a type, function or process by its own, and a constructor, with its number, by its line's.
 use Rattle.std.proofs.Common.{◌≡◌, ◌∙◌, ◌⊎◌, inl, inr, refl, sym, ap, subst, ℕ, zero, suc, ◌+◌, arith, Bool, true, false, ◌&&◌, ◌||◌, if◌then◌else◌, List, [], ◌∷◌, ◌++◌, Option, Some, None, map, slice_get, eqb-true, true≢false}
 use Rattle.campl_tree.specs.declared.place.Ident.{Ident}
 use Rattle.campl_tree.specs.Plain.Decl.{Decl, Data, Protocol, Coprotocol, Function, Process, Program, DataDecl, ProtocolDecl, CoprotocolDecl, DataConstructor, ProtocolConstructor, CoprotocolConstructor}
@@ -11,7 +11,7 @@ use Rattle.campl_types.specs.Run.{run_faults}
 use Rattle.campl_types.specs.Values.{ConstructorsAreKnown, DataTypesAreKnown}
 use Rattle.campl_types.specs.Polarity.{ProtocolsAreKnown, CoprotocolsAreKnown}
 use Rattle.campl_types.specs.WellDeclared.{IsWellDeclared}
-use Rattle.campl_types.specs.World.{World, world_of, names_of, or_else, where_named, declared_ident, TypeEntry, DataType, ProtocolType, CoprotocolType, type_entry, type_named, as_data, ConstructorEntry, OfData, OfProtocol, OfCoprotocol, among_data, among_protocol, among_coprotocol, constructor_entry, constructor_named}
+use Rattle.campl_types.specs.World.{World, world_of, names_of, or_else, where_named, declared_ident, TypeEntry, DataType, ProtocolType, CoprotocolType, type_entry, type_named, as_data, ConstructorEntry, OfData, OfProtocol, OfCoprotocol, among_data, among_protocol, among_coprotocol, constructor_entry, constructor_named, LowerEntry, lower_entry, lower_named}
 use Rattle.campl_types.proofs.Names.{same-is}
 use Rattle.campl_types.proofs.Among.{DistinctFrom, none-distinct, distinct-more}
 use Rattle.campl_types.proofs.Listed.{IsIn, firsts, found-in, in-found, found-both, in-front, in-behind, in-either, firsts-both, none-in}
@@ -193,6 +193,50 @@ type-names m (d ∷ ds) =
     one (Function d) = refl
     one (Process d) = refl
 
+-- Functions and processes of a world
+
+abbrev pub lower_of : Name → Option LowerEntry → List (Name × LowerEntry)
+lower_of x None = []
+lower_of x (Some l) = (x, l) ∷ []
+
+abbrev pub lowers_of : World → List (Name × LowerEntry)
+lowers_of [] = []
+lowers_of (d ∷ ds) = lower_of (declared_ident d).name (lower_entry d) ++ lowers_of ds
+
+pub lower-found : (w : World) (x : Name) → lower_named w x ≡ found x (lowers_of w)
+lower-found [] x = refl
+lower-found (d ∷ ds) x = go (lower_entry d) (same_name x (declared_ident d).name) refl (lower-found ds x)
+  where
+    go : (o : Option LowerEntry) (b : Bool) → same_name x (declared_ident d).name ≡ b → lower_named ds x ≡ found x (lowers_of ds)
+        → or_else (where_named b o) (lower_named ds x) ≡ found x (lower_of (declared_ident d).name o ++ lowers_of ds)
+    go None true s ih = ih
+    go None false s ih = ih
+    go (Some l) true s ih = rw s refl
+    go (Some l) false s ih = rw s ih
+
+no-lowers : (xs : List Ident) → space_names Lowers (in_space Constructors xs) ≡ []
+no-lowers [] = refl
+no-lowers (x ∷ xs) = no-lowers xs
+
+pub lower-names : (m : ℕ) (w : World) → space_names Lowers (declared_from m w) ≡ firsts (lowers_of w)
+lower-names m [] = refl
+lower-names m (d ∷ ds) =
+    let p = one d in let q = lower-names (suc m) ds in
+    names-both Lowers (declares m d) (declared_from (suc m) ds) ∙ (λ k. p k ++ q k) ∙ sym (firsts-both (lower_of (declared_ident d).name (lower_entry d)) (lowers_of ds))
+  where
+    none : (params ks : List Ident) → space_names Lowers (in_space (ParametersOf m) params ++ in_space Constructors ks) ≡ []
+    none params ks =
+        names-both Lowers (in_space (ParametersOf m) params) (in_space Constructors ks)
+        ∙ ap (λ ns. ns ++ space_names Lowers (in_space Constructors ks)) (no-parameters Lowers m refl params)
+        ∙ no-lowers ks
+
+    one : (d : Decl) → space_names Lowers (declares m d) ≡ firsts (lower_of (declared_ident d).name (lower_entry d))
+    one (Data d) = none d.parameters (map (λ (k : DataConstructor). k.name) d.constructors)
+    one (Protocol d) = none d.parameters (map (λ (k : ProtocolConstructor). k.name) d.constructors)
+    one (Coprotocol d) = none d.parameters (map (λ (k : CoprotocolConstructor). k.name) d.constructors)
+    one (Function d) = refl
+    one (Process d) = refl
+
 -- Whose line a constructor is
 
 abbrev pub owner : ConstructorEntry → Decl
@@ -248,6 +292,17 @@ type-in (c ∷ ds) d t (inl i) j =
     one (Some u) k = let e : u ≡ t = cc k in let f = sym e in inl (λ m. ((declared_ident d).name, f m))
 type-in (c ∷ ds) d t (inr i) j = in-behind ((declared_ident d).name, t) (type_of (declared_ident c).name (type_entry c)) (types_of_world ds) (type-in ds d t i j)
 
+pub lower-in : (w : World) (d : Decl) (l : LowerEntry) → IsIn d w → lower_entry d ≡ Some l → IsIn ((declared_ident d).name, l) (lowers_of w)
+lower-in [] d l i j = absurd i
+lower-in (c ∷ ds) d l (inl i) j =
+    in-front ((declared_ident d).name, l) (lower_of (declared_ident c).name (lower_entry c)) (lowers_of ds)
+    (subst (λ b. IsIn ((declared_ident d).name, l) (lower_of (declared_ident b).name (lower_entry b))) i (one (lower_entry d) j))
+  where
+    one : (o : Option LowerEntry) → o ≡ Some l → IsIn ((declared_ident d).name, l) (lower_of (declared_ident d).name o)
+    one None k = absurd (cc k)
+    one (Some u) k = let e : u ≡ l = cc k in let f = sym e in inl (λ m. ((declared_ident d).name, f m))
+lower-in (c ∷ ds) d l (inr i) j = in-behind ((declared_ident d).name, l) (lower_of (declared_ident c).name (lower_entry c)) (lowers_of ds) (lower-in ds d l i j)
+
 pub in-type : (w : World) (x : Name) (t : TypeEntry) → type_named w x ≡ Some t → (d : Decl) × IsIn d w × (type_entry d ≡ Some t) × (x ≡ (declared_ident d).name)
 in-type [] x t i = absurd (cc i)
 in-type (c ∷ ds) x t i = go (type_entry c) refl (same_name x (declared_ident c).name) refl i (in-type ds x t)
@@ -266,6 +321,13 @@ module _ (w : World) (once : twice_among [] (declared_from 0 w) ≡ []) where
 
   pub types-distinct : are_distinct (firsts (types_of_world w)) ≡ true
   types-distinct = subst (λ ns. are_distinct ns ≡ true) (type-names 0 w) ((space-distinct Types [] (declared_from 0 w) once).distinct)
+
+  pub lowers-distinct : are_distinct (firsts (lowers_of w)) ≡ true
+  lowers-distinct = subst (λ ns. are_distinct ns ≡ true) (lower-names 0 w) ((space-distinct Lowers [] (declared_from 0 w) once).distinct)
+
+  -- a function or process is found by its name
+  pub declared-lower : (d : Decl) (l : LowerEntry) → IsIn d w → lower_entry d ≡ Some l → lower_named w (declared_ident d).name ≡ Some l
+  declared-lower d l i j = lower-found w (declared_ident d).name ∙ in-found (declared_ident d).name l (lowers_of w) lowers-distinct (lower-in w d l i j)
 
   -- the line of a declaration is what its constructor is declared to be
   pub line-named : (d : Decl) (k : Name) (c : ConstructorEntry) → IsIn d w → found k (lines_in d) ≡ Some c → constructor_named w k ≡ Some c

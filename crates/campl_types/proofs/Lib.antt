@@ -11,11 +11,14 @@ pub mod Deeds
 pub mod EachOnce
 pub mod Choices
 pub mod Turned
+pub mod Compose
+pub mod SameValue
 pub mod Instances
 pub mod Missing
 pub mod TypedRows
 pub mod MissingUnfolds
 mod FreeCommands
 pub mod FreeParts
+pub mod Times
 pub mod FreeNames
 pub mod Forked

@@ -68,7 +68,7 @@ abbrev pub literals : List Form → List Head
 literals [] = []
 literals (p ∷ ps) = literal p ++ literals ps
 
-abbrev built_heads : Option DataDecl → List SeqType → List Head
+abbrev pub built_heads : Option DataDecl → List SeqType → List Head
 built_heads None ts = []
 built_heads (Some d) ts = map (λ (k : DataConstructor). IsBuilt k.name.name (parts_at d ts k)) d.constructors
 

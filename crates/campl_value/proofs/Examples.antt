@@ -1,12 +1,14 @@
 -- What the definitions say of small values.
-use Rattle.std.proofs.Common.{◌≡◌, refl, true, false, [], ◌∷◌, Some, None}
-use Rattle.std.specs.Prelude.{pos}
+use Rattle.std.proofs.Common.{◌≡◌, refl, true, false, [], ◌∷◌, ◌++◌, Some, None}
+use Rattle.std.specs.Prelude.{pos, codes}
+use Rattle.std.specs.Fmt.{digits}
 use Rattle.std.specs.declared.cmp.Ordering.TheVariants.{Less, Greater}
 use Rattle.campl_value.specs.declared.value.TheConstants.{MAX_DEPTH}
 use Rattle.campl_value.specs.Tree.{Int, Char, Truth, Nil, Cell, Pair, built, depth_of}
 use Rattle.campl_value.specs.List.{appended}
 use Rattle.campl_value.specs.Text.{text_of, chars_of}
 use Rattle.campl_value.specs.Compare.{compared}
+use Rattle.campl_value.specs.Shown.{shown_text, shown_bytes}
 
 -- the pair of 1 and the empty list is two deep
 a_pair : depth_of (Pair (Int (pos 1)) Nil) ≡ 2
@@ -51,3 +53,13 @@ two_types = refl
 -- how deep values go
 limit : MAX_DEPTH ≡ 4096
 limit = refl
+
+-- a backslash, a line feed, a bell and delete are shown as escapes, and an accent isn't
+escapes_shown : shown_text (97 ∷ 92 ∷ 10 ∷ 7 ∷ 127 ∷ 233 ∷ []) ≡ codes "a\\\\\\n\\u{7}\\u{7f}" ++ 233 ∷ []
+unfolding digits
+escapes_shown = refl
+
+-- the same in UTF-8, where the accent is two bytes
+bytes_shown : shown_bytes (9 ∷ 233 ∷ []) ≡ codes "\\t" ++ 195 ∷ 169 ∷ []
+unfolding lib.Utf8.encode
+bytes_shown = refl

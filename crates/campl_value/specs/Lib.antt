@@ -7,3 +7,4 @@ pub mod Made
 pub mod Text
 pub mod Compare
 pub mod Messages
+pub mod Shown

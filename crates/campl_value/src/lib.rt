@@ -19,11 +19,10 @@
 mod compare;
 mod list;
 pub mod message;
+mod shown;
 mod text;
 pub mod value;
 
 pub use message::Message;
+pub use shown::push_shown;
 pub use value::{Look, MAX_DEPTH, Made, Part, Value};
-
-#[cfg(test)]
-mod tests;

@@ -1,17 +1,16 @@
 //! Reads files of cases, and prints for each case what its source is made of, or its fault.
 //!
-//! The arguments are pairs of a form and a file. `tokens FILE` prints each token's kind as a letter, its text and its place;
-//! `layout FILE` the tokens' texts, with `{`, `;` and `}` where layout puts them; `words FILE` the kinds of the words, with what
-//! each name, number and literal stands for, in characters by their codes. A case begins with a line `== NAME` and its source goes
-//! to the next such line; the last line feed before that line, or before the end, belongs to no source. Sources and answers are
-//! worked by hand from the language's rules.
+//! The arguments are pairs of a form and a file. `tokens FILE` prints each token's kind, its text and its place; `layout FILE` the
+//! tokens' texts, with `{`, `;` and `}` where layout puts them; `terminals FILE` the kinds of the terminals, with what each name,
+//! number and literal stands for, in characters by their codes. A case begins with a line `== NAME` and its source goes to the next
+//! such line; the last line feed before that line, or before the end, belongs to no source. Sources and answers are worked by hand
+//! from the language's rules.
 #![tactic(auto)]
 
 use anyhow::{Context, Result, bail};
-use campl_grammar::Kind;
 use campl_lex::{LexFault, Token, TokenKind, end_of, layout, lex};
+use campl_terminals::{Terminal, terminals_of};
 use campl_text::{FileShelf, Text, read_text};
-use campl_words::{Word, words_of};
 use std::alloc::Global;
 use std::env;
 use std::io::Write;
@@ -24,15 +23,15 @@ const FILE_LIMIT: u64 = 1_048_576;
 enum Form {
     Tokens,
     Layout,
-    Words,
+    Terminals,
 }
 
 fn form_of(argument: &str) -> Result<Form> {
     match argument {
         "tokens" => Ok(Form::Tokens),
         "layout" => Ok(Form::Layout),
-        "words" => Ok(Form::Words),
-        _ => bail!("the forms are tokens, layout and words"),
+        "terminals" => Ok(Form::Terminals),
+        _ => bail!("the forms are tokens, layout and terminals"),
     }
 }
 
@@ -69,22 +68,6 @@ fn print_fault(fault: LexFault, out: &mut impl Write) -> Result<()> {
     Ok(())
 }
 
-fn letter_of(kind: TokenKind) -> char {
-    match kind {
-        TokenKind::Lower => 'l',
-        TokenKind::Upper => 'U',
-        TokenKind::Wildcard => 'w',
-        TokenKind::Reserved => 'r',
-        TokenKind::Number => 'n',
-        TokenKind::Text => 't',
-        TokenKind::Character => 'c',
-        TokenKind::Symbol => 's',
-        TokenKind::Open => '{',
-        TokenKind::Close => '}',
-        TokenKind::Separator => ';',
-    }
-}
-
 // A token's text in its source.
 fn text_of(source: &str, token: Token) -> &str {
     source
@@ -96,8 +79,8 @@ fn print_tokens(source: &str, tokens: &[Token], out: &mut impl Write) -> Result<
     for token in tokens {
         write!(
             out,
-            " {}{}@{}:{}",
-            letter_of(token.kind),
+            " {:?} {}@{}:{}",
+            token.kind,
             text_of(source, *token),
             token.place.line,
             token.place.column
@@ -108,37 +91,37 @@ fn print_tokens(source: &str, tokens: &[Token], out: &mut impl Write) -> Result<
 
 fn print_layout(source: &str, tokens: &[Token], out: &mut impl Write) -> Result<()> {
     for token in tokens {
-        match token.kind {
-            TokenKind::Open | TokenKind::Close | TokenKind::Separator => write!(
-                out,
-                " {}{}:{}",
-                letter_of(token.kind),
-                token.place.line,
-                token.place.column
-            )?,
-            _ => write!(out, " {}", text_of(source, *token))?,
-        }
+        let sign = match token.kind {
+            TokenKind::LeftBrace => '{',
+            TokenKind::RightBrace => '}',
+            TokenKind::Semicolon => ';',
+            _ => {
+                write!(out, " {}", text_of(source, *token))?;
+                continue;
+            }
+        };
+        write!(out, " {}{}:{}", sign, token.place.line, token.place.column)?;
     }
     Ok(())
 }
 
-// A word's kind, and what it stands for.
-fn print_word(alloc: Global, word: &Word, out: &mut impl Write) -> Result<()> {
-    write!(out, " {:?}", word.kind())?;
-    match word.kind() {
-        Kind::Lower => write!(out, " {}", word.name(alloc)?)?,
-        Kind::Upper => {
-            let ident = word.ident(alloc)?;
+// A terminal's kind, and what it stands for.
+fn print_terminal(alloc: Global, terminal: &Terminal, out: &mut impl Write) -> Result<()> {
+    write!(out, " {:?}", terminal.kind())?;
+    match terminal.kind() {
+        TokenKind::Lower => write!(out, " {}", terminal.name(alloc)?)?,
+        TokenKind::Upper => {
+            let ident = terminal.ident(alloc)?;
             write!(
                 out,
                 " {}@{}:{}",
                 ident.name, ident.place.line, ident.place.column
             )?;
         }
-        Kind::Number => write!(out, " {}", word.number())?,
-        Kind::Character => write!(out, " {}", word.character() as u32)?,
-        Kind::Text => {
-            for letter in word.text(alloc)?.as_slice() {
+        TokenKind::Number => write!(out, " {}", terminal.number())?,
+        TokenKind::Character => write!(out, " {}", terminal.character() as u32)?,
+        TokenKind::Text => {
+            for letter in terminal.text(alloc)?.as_slice() {
                 write!(out, " {}", *letter as u32)?;
             }
         }
@@ -147,15 +130,15 @@ fn print_word(alloc: Global, word: &Word, out: &mut impl Write) -> Result<()> {
     Ok(())
 }
 
-fn print_words(alloc: Global, words: &[Word], out: &mut impl Write) -> Result<()> {
-    for word in words {
-        print_word(alloc, word, out)?;
+fn print_terminals(alloc: Global, terminals: &[Terminal], out: &mut impl Write) -> Result<()> {
+    for terminal in terminals {
+        print_terminal(alloc, terminal, out)?;
     }
     Ok(())
 }
 
 // Prints a source in a form.
-#[tactic(auto, using(campl_words::proofs::Cuts::laid_cut))]
+#[tactic(auto, using(campl_terminals::proofs::Cuts::laid_cut))]
 fn print_source(alloc: Global, form: Form, source: &Text, out: &mut impl Write) -> Result<()> {
     let text = source.as_str();
     let tokens = match lex(alloc, source) {
@@ -172,7 +155,7 @@ fn print_source(alloc: Global, form: Form, source: &Text, out: &mut impl Write) 
     if let Form::Layout = form {
         return print_layout(text, &laid, out);
     }
-    print_words(alloc, &words_of(alloc, source, &laid)?, out)
+    print_terminals(alloc, &terminals_of(alloc, source, &laid)?, out)
 }
 
 // Prints a line for each case of a text.

@@ -1,7 +1,7 @@
 //! The process that prints.
 ghost use Rattle.std.specs.Prelude.{◌≡◌, IfOk, map, option_map};
 ghost use Rattle.campl_tree.specs.View.{view_chan};
-ghost use Rattle.campl_cli.specs.Form.{prints_of, characters_of_all, is_console as is_console_type, is_one_console as is_one_console_type, has_heading as has_printing_heading, printed_by_body as prints_of_body, printed_by_row as prints_of_row, printed_by_process as prints_of_process, printed_by as prints_of_program};
+ghost use Rattle.campl_cli.specs.Form.{prints_of, characters_of_all, is_console_type, is_one_console_type, has_printing_heading, prints_of_body, prints_of_row, prints_of_process, prints_of_program};
 
 use super::Printer;
 use super::texts::{is, texts_on};

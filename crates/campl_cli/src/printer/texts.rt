@@ -1,7 +1,7 @@
 //! The texts that a body prints.
 ghost use Rattle.std.specs.Prelude.{◌≡◌, ◌≤◌, [], IfOk, Some, None, map, option_map, length, if◌then◌else◌, chars, string_bytes};
 ghost use Rattle.campl_tree.specs.View.{view_action, view_last, view_expr};
-ghost use Rattle.campl_cli.specs.Form.{is as is_word, on as on_channel, text_in as text_of_value, printed_text as printed_text_of, nothing_more, printed_on, halted_channel, characters_of_all};
+ghost use Rattle.campl_cli.specs.Form.{is_word, on_channel, literal_text, text_printed, nothing_more, printed_on, halted_channel, characters_of_all};
 
 use campl_tree::{Action, Expr, Ident, Last, Name};
 use std::alloc::{AllocError, Global};
@@ -27,7 +27,7 @@ fn on(constructor: &[char], channel: &Name, k: &Ident, a: &Ident) -> bool
 // The text that an expression is.
 #[tactic(auto, using(campl_tree::proofs::Views::expr_views))]
 fn text_in(value: &Expr) -> Option<&[char]>
-    ensures { option_map (λ text. text.now) result ≡ text_of_value (view_expr value.now) }
+    ensures { option_map (λ text. text.now) result ≡ literal_text (view_expr value.now) }
 {
     match value {
         Expr::Text(_, text) => Some(text.as_slice()),
@@ -56,7 +56,7 @@ fn text_in(value: &Expr) -> Option<&[char]>
 
 // The text that two commands print on the channel.
 fn printed_text<'a>(channel: &Name, first: &Action, second: &'a Action) -> Option<&'a [char]>
-    ensures { option_map (λ text. text.now) result ≡ printed_text_of channel.now (view_action first.now) (view_action second.now) }
+    ensures { option_map (λ text. text.now) result ≡ text_printed channel.now (view_action first.now) (view_action second.now) }
 {
     let Action::Hput(_, constructor, picked) = first else {
         return None;

@@ -10,7 +10,7 @@ use crate::error::ParseError;
 use crate::expr::literals::{simple, starts_simple};
 use crate::expr::{boxed_expr, expr, exprs, some_exprs};
 use crate::{made, read};
-use campl_grammar::Kind;
+use campl_lex::TokenKind;
 use campl_tree::{Expr, Place};
 use sqlite_items::{Boxed, Items};
 use std::alloc::Global;
@@ -24,19 +24,19 @@ pub fn atom(alloc: Global, cursor: &mut Cursor<'_>, depth: u32) -> Result<Expr, 
     if starts_simple(cursor) {
         return simple(alloc, cursor, depth);
     }
-    if cursor.at(Kind::Lower) {
+    if cursor.at(TokenKind::Lower) {
         return variable(alloc, cursor, depth);
     }
-    if cursor.at(Kind::Code) {
+    if cursor.at(TokenKind::Code) {
         return code(alloc, cursor, depth);
     }
-    if cursor.at(Kind::Char) {
+    if cursor.at(TokenKind::Char) {
         return character(alloc, cursor, depth);
     }
-    if cursor.at(Kind::Upper) {
+    if cursor.at(TokenKind::Upper) {
         return constructor(alloc, cursor, depth);
     }
-    if cursor.at(Kind::LeftBracket) {
+    if cursor.at(TokenKind::LeftBracket) {
         return listed(alloc, cursor, depth);
     }
     grouped(alloc, cursor, depth)
@@ -48,14 +48,13 @@ pub fn atom(alloc: Global, cursor: &mut Cursor<'_>, depth: u32) -> Result<Expr, 
 fn variable(alloc: Global, cursor: &mut Cursor<'_>, depth: u32) -> Result<Expr, ParseError>
     ensures { Reads (read name.variable depth cursor.old) result cursor.new }
 {
-    let word = read!(cursor.expect(Kind::Lower, depth));
+    let word = read!(cursor.expect(TokenKind::Lower, depth));
     let name = made!(word.name(alloc));
-    if !cursor.at(Kind::LeftParen) {
+    if read!(cursor.take(TokenKind::LeftParen, depth)).is_none() {
         return Ok(Expr::Variable(word.place(), name));
     }
-    read!(cursor.expect(Kind::LeftParen, depth));
     let arguments = read!(some_exprs(alloc, cursor, depth + 1));
-    read!(cursor.expect(Kind::RightParen, depth + 1));
+    read!(cursor.expect(TokenKind::RightParen, depth + 1));
     Ok(Expr::Call(word.place(), name, arguments))
 }
 
@@ -65,10 +64,10 @@ fn variable(alloc: Global, cursor: &mut Cursor<'_>, depth: u32) -> Result<Expr, 
 fn code(alloc: Global, cursor: &mut Cursor<'_>, depth: u32) -> Result<Expr, ParseError>
     ensures { Reads (read name.code depth cursor.old) result cursor.new }
 {
-    let place = read!(cursor.expect(Kind::Code, depth)).place();
-    read!(cursor.expect(Kind::LeftParen, depth));
+    let place = read!(cursor.expect(TokenKind::Code, depth)).place();
+    read!(cursor.expect(TokenKind::LeftParen, depth));
     let inner = read!(boxed_expr(alloc, cursor, depth + 1));
-    read!(cursor.expect(Kind::RightParen, depth + 1));
+    read!(cursor.expect(TokenKind::RightParen, depth + 1));
     Ok(Expr::CodeOf(place, inner))
 }
 
@@ -78,10 +77,10 @@ fn code(alloc: Global, cursor: &mut Cursor<'_>, depth: u32) -> Result<Expr, Pars
 fn character(alloc: Global, cursor: &mut Cursor<'_>, depth: u32) -> Result<Expr, ParseError>
     ensures { Reads (read name.character depth cursor.old) result cursor.new }
 {
-    let place = read!(cursor.expect(Kind::Char, depth)).place();
-    read!(cursor.expect(Kind::LeftParen, depth));
+    let place = read!(cursor.expect(TokenKind::Char, depth)).place();
+    read!(cursor.expect(TokenKind::LeftParen, depth));
     let inner = read!(boxed_expr(alloc, cursor, depth + 1));
-    read!(cursor.expect(Kind::RightParen, depth + 1));
+    read!(cursor.expect(TokenKind::RightParen, depth + 1));
     Ok(Expr::CharOf(place, inner))
 }
 
@@ -91,15 +90,14 @@ fn character(alloc: Global, cursor: &mut Cursor<'_>, depth: u32) -> Result<Expr,
 fn constructor(alloc: Global, cursor: &mut Cursor<'_>, depth: u32) -> Result<Expr, ParseError>
     ensures { Reads (read name.constructor depth cursor.old) result cursor.new }
 {
-    let word = read!(cursor.expect(Kind::Upper, depth));
+    let word = read!(cursor.expect(TokenKind::Upper, depth));
     let name = made!(word.name(alloc));
     let none = Items::new(alloc);
-    if !cursor.at(Kind::LeftParen) {
+    if read!(cursor.take(TokenKind::LeftParen, depth)).is_none() {
         return Ok(Expr::Constructor(word.place(), name, none));
     }
-    read!(cursor.expect(Kind::LeftParen, depth));
     let parts = read!(exprs(alloc, cursor, depth + 1, none));
-    read!(cursor.expect(Kind::RightParen, depth + 1));
+    read!(cursor.expect(TokenKind::RightParen, depth + 1));
     Ok(Expr::Constructor(word.place(), name, parts))
 }
 
@@ -110,9 +108,9 @@ fn listed(alloc: Global, cursor: &mut Cursor<'_>, depth: u32) -> Result<Expr, Pa
     ensures { Reads (read name.listed depth cursor.old) result cursor.new }
 {
     let place = cursor.place();
-    read!(cursor.expect(Kind::LeftBracket, depth));
+    read!(cursor.expect(TokenKind::LeftBracket, depth));
     let items = read!(some_exprs(alloc, cursor, depth + 1));
-    read!(cursor.expect(Kind::RightBracket, depth + 1));
+    read!(cursor.expect(TokenKind::RightBracket, depth + 1));
     Ok(Expr::List(place, items))
 }
 
@@ -123,12 +121,12 @@ fn grouped(alloc: Global, cursor: &mut Cursor<'_>, depth: u32) -> Result<Expr, P
     ensures { Reads (read name.grouped depth cursor.old) result cursor.new }
 {
     let place = cursor.place();
-    read!(cursor.expect(Kind::LeftParen, depth));
+    read!(cursor.expect(TokenKind::LeftParen, depth));
     let first = read!(expr(alloc, cursor, depth + 1));
-    if cursor.at(Kind::Comma) {
+    if cursor.at(TokenKind::Comma) {
         return pair(alloc, cursor, depth + 1, place, first);
     }
-    read!(cursor.expect(Kind::RightParen, depth + 1));
+    read!(cursor.expect(TokenKind::RightParen, depth + 1));
     Ok(first)
 }
 
@@ -143,8 +141,8 @@ fn pair(
 ) -> Result<Expr, ParseError>
     ensures { Reads (ends_pair place first depth cursor.old) result cursor.new }
 {
-    read!(cursor.expect(Kind::Comma, depth));
+    read!(cursor.expect(TokenKind::Comma, depth));
     let second = read!(boxed_expr(alloc, cursor, depth + 1));
-    read!(cursor.expect(Kind::RightParen, depth));
+    read!(cursor.expect(TokenKind::RightParen, depth));
     Ok(Expr::Pair(place, made!(Boxed::new(alloc, first)), second))
 }

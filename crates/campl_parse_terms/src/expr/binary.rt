@@ -12,7 +12,7 @@ use crate::expr::operators::{
     addition, comparison, multiplication, starts_comparison, starts_factors, starts_terms,
 };
 use crate::{made, read};
-use campl_grammar::Kind;
+use campl_lex::TokenKind;
 use campl_tree::{Expr, Place};
 use sqlite_items::Boxed;
 use std::alloc::Global;
@@ -25,10 +25,9 @@ pub fn disjunction(alloc: Global, cursor: &mut Cursor<'_>, depth: u32) -> Result
 {
     let place = cursor.place();
     let left = read!(conjunction(alloc, cursor, depth));
-    if !cursor.at(Kind::Or) {
+    if read!(cursor.take(TokenKind::Or, depth)).is_none() {
         return Ok(left);
     }
-    read!(cursor.expect(Kind::Or, depth));
     let right = read!(disjunction(alloc, cursor, depth + 1));
     Ok(Expr::Or(
         place,
@@ -45,10 +44,9 @@ fn conjunction(alloc: Global, cursor: &mut Cursor<'_>, depth: u32) -> Result<Exp
 {
     let place = cursor.place();
     let left = read!(cmp(alloc, cursor, depth));
-    if !cursor.at(Kind::And) {
+    if read!(cursor.take(TokenKind::And, depth)).is_none() {
         return Ok(left);
     }
-    read!(cursor.expect(Kind::And, depth));
     let right = read!(conjunction(alloc, cursor, depth + 1));
     Ok(Expr::And(
         place,
@@ -86,10 +84,10 @@ fn joined(alloc: Global, cursor: &mut Cursor<'_>, depth: u32) -> Result<Expr, Pa
 {
     let place = cursor.place();
     let left = read!(sum(alloc, cursor, depth));
-    if cursor.at(Kind::Colon) {
+    if cursor.at(TokenKind::Colon) {
         return cons(alloc, cursor, depth, place, left);
     }
-    if cursor.at(Kind::Append) {
+    if cursor.at(TokenKind::Append) {
         return append(alloc, cursor, depth, place, left);
     }
     Ok(left)
@@ -106,7 +104,7 @@ fn cons(
 ) -> Result<Expr, ParseError>
     ensures { Reads (joins place left (piece cons_tail depth cursor.old)) result cursor.new }
 {
-    read!(cursor.expect(Kind::Colon, depth));
+    read!(cursor.expect(TokenKind::Colon, depth));
     let right = read!(joined(alloc, cursor, depth + 1));
     Ok(Expr::Cons(
         place,
@@ -126,7 +124,7 @@ fn append(
 ) -> Result<Expr, ParseError>
     ensures { Reads (joins place left (piece append_tail depth cursor.old)) result cursor.new }
 {
-    read!(cursor.expect(Kind::Append, depth));
+    read!(cursor.expect(TokenKind::Append, depth));
     let right = read!(joined(alloc, cursor, depth + 1));
     Ok(Expr::Append(
         place,
@@ -215,10 +213,9 @@ fn factors(
 fn unary(alloc: Global, cursor: &mut Cursor<'_>, depth: u32) -> Result<Expr, ParseError>
     ensures { Reads (read name.unary depth cursor.old) result cursor.new }
 {
-    if !cursor.at(Kind::Minus) {
+    let Some(minus) = read!(cursor.take(TokenKind::Minus, depth)) else {
         return atom(alloc, cursor, depth);
-    }
-    let place = read!(cursor.expect(Kind::Minus, depth)).place();
+    };
     let inner = read!(unary(alloc, cursor, depth + 1));
-    Ok(Expr::Negate(place, made!(Boxed::new(alloc, inner))))
+    Ok(Expr::Negate(minus.place(), made!(Boxed::new(alloc, inner))))
 }

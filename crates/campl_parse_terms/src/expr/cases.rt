@@ -7,7 +7,7 @@ ghost use Rattle.campl_parse_terms.specs.Reads.{Fails};
 
 use crate::cursor::Cursor;
 use crate::error::ParseError;
-use campl_grammar::Kind;
+use campl_lex::TokenKind;
 use campl_tree::Place;
 use sqlite_items::Items;
 use std::alloc::Global;
@@ -21,8 +21,8 @@ pub fn begin_cases(
     ensures { MatchResult result (λ places. ends_cases places depth (piece without_case_piece depth cursor.new) ≡ read name.expr depth cursor.old) (λ e. Fails (read name.expr depth cursor.old) e cursor.new) }
 {
     let mut places = Items::new(alloc);
-    'cases: while cursor.at(Kind::Case) {
-        let word = cursor.expect(Kind::Case, depth)?;
+    'cases: while cursor.at(TokenKind::Case) {
+        let word = cursor.expect(TokenKind::Case, depth)?;
         places.push(word.place())?;
     }
     Ok(places)

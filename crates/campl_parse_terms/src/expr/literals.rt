@@ -4,13 +4,13 @@ ghost use Rattle.campl_gram.specs.Reading.{next_in};
 ghost use Rattle.campl_grammar.specs.Names as name;
 ghost use Rattle.campl_grammar.specs.Rules.{read};
 ghost use Rattle.campl_grammar.specs.Tables.{starts};
-ghost use Rattle.campl_grammar.specs.Word.{terminals};
+ghost use Rattle.campl_grammar.specs.Terminal.{terminals};
 ghost use Rattle.campl_parse_terms.specs.Reads.{Reads};
 
 use crate::cursor::Cursor;
 use crate::error::ParseError;
 use crate::{made, read};
-use campl_grammar::Kind;
+use campl_lex::TokenKind;
 use campl_tree::Expr;
 use std::alloc::Global;
 
@@ -19,20 +19,20 @@ pub fn starts_expr(cursor: &Cursor<'_>) -> bool
     ensures { result ≡ next_in terminals (starts name.expr) cursor.now }
 {
     let kinds = [
-        Kind::Case,
-        Kind::If,
-        Kind::Minus,
-        Kind::Number,
-        Kind::Character,
-        Kind::Text,
-        Kind::True,
-        Kind::False,
-        Kind::Lower,
-        Kind::Code,
-        Kind::Char,
-        Kind::Upper,
-        Kind::LeftBracket,
-        Kind::LeftParen,
+        TokenKind::Case,
+        TokenKind::If,
+        TokenKind::Minus,
+        TokenKind::Number,
+        TokenKind::Character,
+        TokenKind::Text,
+        TokenKind::True,
+        TokenKind::False,
+        TokenKind::Lower,
+        TokenKind::Code,
+        TokenKind::Char,
+        TokenKind::Upper,
+        TokenKind::LeftBracket,
+        TokenKind::LeftParen,
     ];
     cursor.at_any(&kinds)
 }
@@ -42,11 +42,11 @@ pub fn starts_simple(cursor: &Cursor<'_>) -> bool
     ensures { result ≡ next_in terminals (starts name.simple) cursor.now }
 {
     let kinds = [
-        Kind::Number,
-        Kind::Character,
-        Kind::Text,
-        Kind::True,
-        Kind::False,
+        TokenKind::Number,
+        TokenKind::Character,
+        TokenKind::Text,
+        TokenKind::True,
+        TokenKind::False,
     ];
     cursor.at_any(&kinds)
 }
@@ -56,22 +56,18 @@ pub fn starts_simple(cursor: &Cursor<'_>) -> bool
 pub fn simple(alloc: Global, cursor: &mut Cursor<'_>, depth: u32) -> Result<Expr, ParseError>
     ensures { Reads (read name.simple depth cursor.old) result cursor.new }
 {
-    if cursor.at(Kind::Number) {
-        let word = read!(cursor.expect(Kind::Number, depth));
+    if let Some(word) = read!(cursor.take(TokenKind::Number, depth)) {
         return Ok(Expr::Number(word.place(), word.number()));
     }
-    if cursor.at(Kind::Character) {
-        let word = read!(cursor.expect(Kind::Character, depth));
+    if let Some(word) = read!(cursor.take(TokenKind::Character, depth)) {
         return Ok(Expr::Character(word.place(), word.character()));
     }
-    if cursor.at(Kind::Text) {
-        let word = read!(cursor.expect(Kind::Text, depth));
+    if let Some(word) = read!(cursor.take(TokenKind::Text, depth)) {
         return Ok(Expr::Text(word.place(), made!(word.text(alloc))));
     }
-    if cursor.at(Kind::True) {
-        let word = read!(cursor.expect(Kind::True, depth));
+    if let Some(word) = read!(cursor.take(TokenKind::True, depth)) {
         return Ok(Expr::True(word.place()));
     }
-    let word = read!(cursor.expect(Kind::False, depth));
+    let word = read!(cursor.expect(TokenKind::False, depth));
     Ok(Expr::False(word.place()))
 }

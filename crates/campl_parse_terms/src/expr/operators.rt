@@ -4,12 +4,12 @@ ghost use Rattle.campl_gram.specs.Reading.{next_in};
 ghost use Rattle.campl_grammar.specs.Names as name;
 ghost use Rattle.campl_grammar.specs.Rules.{read};
 ghost use Rattle.campl_grammar.specs.Tables.{starts};
-ghost use Rattle.campl_grammar.specs.Word.{terminals};
+ghost use Rattle.campl_grammar.specs.Terminal.{terminals};
 ghost use Rattle.campl_parse_terms.specs.Reads.{Reads};
 
 use crate::cursor::Cursor;
 use crate::error::ParseError;
-use campl_grammar::Kind;
+use campl_lex::TokenKind;
 use campl_tree::{Arithmetic, Comparison};
 
 /// Whether the next word compares.
@@ -17,12 +17,12 @@ pub fn starts_comparison(cursor: &Cursor<'_>) -> bool
     ensures { result ≡ next_in terminals (starts name.comparison) cursor.now }
 {
     let kinds = [
-        Kind::Equal,
-        Kind::Different,
-        Kind::Less,
-        Kind::AtMost,
-        Kind::Greater,
-        Kind::AtLeast,
+        TokenKind::Equal,
+        TokenKind::Different,
+        TokenKind::Less,
+        TokenKind::AtMost,
+        TokenKind::Greater,
+        TokenKind::AtLeast,
     ];
     cursor.at_any(&kinds)
 }
@@ -31,14 +31,14 @@ pub fn starts_comparison(cursor: &Cursor<'_>) -> bool
 pub fn starts_terms(cursor: &Cursor<'_>) -> bool
     ensures { result ≡ next_in terminals (starts name.terms) cursor.now }
 {
-    cursor.at_any(&[Kind::Plus, Kind::Minus])
+    cursor.at_any(&[TokenKind::Plus, TokenKind::Minus])
 }
 
 /// Whether the next word multiplies or divides.
 pub fn starts_factors(cursor: &Cursor<'_>) -> bool
     ensures { result ≡ next_in terminals (starts name.factors) cursor.now }
 {
-    cursor.at_any(&[Kind::Star, Kind::Div, Kind::Mod])
+    cursor.at_any(&[TokenKind::Star, TokenKind::Div, TokenKind::Mod])
 }
 
 /// A comparison's operator.
@@ -48,13 +48,13 @@ pub fn comparison(cursor: &mut Cursor<'_>, depth: u32) -> Result<Comparison, Par
     ensures shallow { OnOk result (depth ≤ 200) }
 {
     let others = [
-        (Kind::Different, Comparison::Different),
-        (Kind::Less, Comparison::Less),
-        (Kind::AtMost, Comparison::AtMost),
-        (Kind::Greater, Comparison::Greater),
-        (Kind::AtLeast, Comparison::AtLeast),
+        (TokenKind::Different, Comparison::Different),
+        (TokenKind::Less, Comparison::Less),
+        (TokenKind::AtMost, Comparison::AtMost),
+        (TokenKind::Greater, Comparison::Greater),
+        (TokenKind::AtLeast, Comparison::AtLeast),
     ];
-    cursor.one_of((Kind::Equal, Comparison::Equal), &others, depth)
+    cursor.one_of((TokenKind::Equal, Comparison::Equal), &others, depth)
 }
 
 /// `+` or `-`.
@@ -63,8 +63,8 @@ pub fn addition(cursor: &mut Cursor<'_>, depth: u32) -> Result<Arithmetic, Parse
     ensures reads { Reads (read name.addition depth cursor.old) result cursor.new }
     ensures shallow { OnOk result (depth ≤ 200) }
 {
-    let others = [(Kind::Minus, Arithmetic::Subtract)];
-    cursor.one_of((Kind::Plus, Arithmetic::Add), &others, depth)
+    let others = [(TokenKind::Minus, Arithmetic::Subtract)];
+    cursor.one_of((TokenKind::Plus, Arithmetic::Add), &others, depth)
 }
 
 /// `*`, `div` or `mod`.
@@ -74,8 +74,8 @@ pub fn multiplication(cursor: &mut Cursor<'_>, depth: u32) -> Result<Arithmetic,
     ensures shallow { OnOk result (depth ≤ 200) }
 {
     let others = [
-        (Kind::Div, Arithmetic::Divide),
-        (Kind::Mod, Arithmetic::Remainder),
+        (TokenKind::Div, Arithmetic::Divide),
+        (TokenKind::Mod, Arithmetic::Remainder),
     ];
-    cursor.one_of((Kind::Star, Arithmetic::Multiply), &others, depth)
+    cursor.one_of((TokenKind::Star, Arithmetic::Multiply), &others, depth)
 }

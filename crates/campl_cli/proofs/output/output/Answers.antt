@@ -10,8 +10,8 @@ use Rattle.campl_cli.proofs.output.output.Goals as goal
 pub returns : goal.returns
 returns c =
     let F = λ (ts : List _). flat_map record_line (map Took (map chars (map string_bytes ts))) in
-    let p : List ℕ = string_bytes c.loop-text.output in
-    let lines : p ≡ string_bytes c.in_ok-output.output ++ F c.args.texts.now =
+    let p : List ℕ = c.loop-text.output.items in
+    let lines : p ≡ c.into_bytes-output.result.items ++ F c.args.texts.now =
     sym (append-nil p) ∙ (sym (ap (λ x. p ++ x) (at_drop_all F c.args.texts.now c.loop-text.text-index c.loop-text-test.false)) ∙ c.loop-text.invariant) in
-    whole_output c.args.console.now (map chars (map string_bytes c.args.texts.now)) c.args.steps _ _ _ c.in_ok-output.ensures lines
-    (c.in_ok-push_str.ensures.bytes ∙ ap (λ x. p ++ x) (c.as_str-2.ensures.value ∙ c.in_ok-ending.ensures))
+    whole_output c.args.console.now (map chars (map string_bytes c.args.texts.now)) c.args.steps _ _ _ (ap (λ v. v.items) c.into_bytes-output.ensures.value ∙ c.in_ok-heading.ensures) lines
+    (c.in_ok-extend_from_slice.ensures.items ∙ ap (λ x. p ++ x) (c.as_bytes.ensures.value ∙ c.in_ok-ending.ensures))

@@ -7,5 +7,5 @@ use Rattle.campl_cli.proofs.output.output.Given as goal
 -- the lines so far and those that are left make all lines of the texts
 abbrev pub invariant-loop-text : goal.invariant-loop-text
 invariant-loop-text l =
-    string_bytes l.output ++ flat_map record_line (map Took (map chars (map string_bytes (drop l.text-index l.texts))))
-    ≡ string_bytes l.initial.output ++ flat_map record_line (map Took (map chars (map string_bytes l.texts)))
+    l.output.items ++ flat_map record_line (map Took (map chars (map string_bytes (drop l.text-index l.texts))))
+    ≡ l.initial.output.items ++ flat_map record_line (map Took (map chars (map string_bytes l.texts)))

@@ -1,6 +1,6 @@
 use Rattle.std.proofs.Common.{subst}
 use Rattle.std.specs.Str.{IsUtf8}
-use Rattle.campl_words.proofs.Cuts.{laid_cut}
+use Rattle.campl_terminals.proofs.Cuts.{laid_cut}
 use Rattle.campl_cli.specs.Source.{end_of}
 use Rattle.campl_cli.proofs.Phases.{layout_refuses}
 use Rattle.campl_cli.proofs.source.layout_of.Goals as goal

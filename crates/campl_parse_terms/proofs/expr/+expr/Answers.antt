@@ -17,8 +17,8 @@ end_cases-returns-in_err-value t c =
 pub end_cases-cases-preserved : goal.end_cases-cases-preserved
 end_cases-cases-preserved t c = case_ended c.cases.places c.pop.new.self c.in-Some.place c.args.depth (Ok c.cases.value, c.cases.cursor) (Ok c.in_ok-value.value, c.end_case.new.cursor) _ c.in-Some.ensures c.in_ok-value.ensures c.cases.invariant
 
-pub erows-block-requires-clause-shortens : goal.erows-block-requires-clause-shortens
-erows-block-requires-clause-shortens t c ts us x h = shortens erow (suc c.args.depth) ts us x (rw (← h.shows, ← h.leaves) h.met)
+pub erows-block_behind-requires-clause-shortens : goal.erows-block_behind-requires-clause-shortens
+erows-block_behind-requires-clause-shortens t c ts us x h = shortens erow (suc c.args.depth) ts us x (rw (← h.shows, ← h.leaves) h.met)
 
 pub erows-returns : goal.erows-returns
-erows-returns t c = c.block.ensures (read erow (suc c.args.depth)) (read erows (suc c.args.depth)) record { step = reads_erows (suc c.args.depth) } (λ ts us r h. rw (← h.shows, ← h.leaves) h.met)
+erows-returns t c = c.block_behind.ensures (read erow (suc c.args.depth)) (read erows (suc c.args.depth)) record { step = reads_erows (suc c.args.depth) } (λ ts us r h. rw (← h.shows, ← h.leaves) h.met)

@@ -5,8 +5,8 @@ use Rattle.campl_parse_terms.proofs.expr.+expr.Given as goal
 abbrev pub decreases-erows : goal.decreases-erows
 decreases-erows l = (201 - l.depth) * 16 + 1
 
-abbrev pub decreases-erows-block : goal.decreases-erows-block
-decreases-erows-block l = (201 - l.depth) * 16
+abbrev pub decreases-erows-block_behind : goal.decreases-erows-block_behind
+decreases-erows-block_behind l = (201 - l.depth) * 16
 
 abbrev pub decreases-erow : goal.decreases-erow
 decreases-erow l = (201 - l.depth) * 16 + 13

@@ -1,5 +1,4 @@
 use Rattle.std.proofs.Common.{add-one}
-use Rattle.campl_parse_terms.specs.Lines.{AreLines}
 use Rattle.campl_parse_terms.proofs.LineSteps.{block_fails, block_open}
 use Rattle.campl_parse_terms.proofs.lines.block.Goals as goal
 

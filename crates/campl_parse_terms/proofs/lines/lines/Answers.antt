@@ -1,9 +1,8 @@
-use Rattle.std.proofs.Common.{rules, arith, ◌≡◌, ◌≤◌, ◌+◌, List, [], ◌∷◌, length, true, false, Ok, Err, refl}
-use Rattle.campl_gram.specs.Reading.{Outcome, next_in}
-use Rattle.campl_grammar.specs.declared.kind.Kind.TheVariants as k
-use Rattle.campl_grammar.specs.Word.{terminals}
+use Rattle.std.proofs.Common.{rules, arith, ◌≡◌, ◌≤◌, ◌+◌, [], ◌∷◌, length, true, false, refl}
+use Rattle.campl_gram.specs.Reading.{next_in}
+use Rattle.campl_lex.specs.declared.token.TokenKind.TheVariants as k
+use Rattle.campl_grammar.specs.Terminal.{terminals}
 use Rattle.campl_grammar.proofs.Exactness.{leaves-word}
-use Rattle.campl_parse_terms.specs.Lines.{AreLines, Gives}
 use Rattle.campl_parse_terms.proofs.LineSteps.{line_fails, line_ends, mark_fails, line_added}
 use Rattle.campl_parse_terms.proofs.lines.lines.Goals as goal
 

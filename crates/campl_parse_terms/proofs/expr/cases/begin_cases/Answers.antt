@@ -1,7 +1,7 @@
 use Rattle.std.proofs.Common.{◌≡◌, true, false, [], ◌∷◌, rules}
 use Rattle.campl_gram.specs.Reading.{next_in}
-use Rattle.campl_grammar.specs.declared.kind.Kind.TheVariants as k
-use Rattle.campl_grammar.specs.Word.{terminals}
+use Rattle.campl_lex.specs.declared.token.TokenKind.TheVariants as k
+use Rattle.campl_grammar.specs.Terminal.{terminals}
 use Rattle.campl_grammar.specs.Names.{expr}
 use Rattle.campl_grammar.specs.Rules.{read}
 use Rattle.campl_parse_terms.specs.Reads.{Fails}

@@ -1,6 +1,0 @@
-pub mod Inside
-pub mod Braced
-pub mod Taken
-pub mod Cuts
-pub mod Braces
-pub mod Spelled

@@ -1,6 +1,0 @@
-use Rattle.std.proofs.Common.{pos, ap}
-use Rattle.campl_words.proofs.Spelled.{number_is}
-use Rattle.campl_words.proofs.laws.number_is_spelled.Goals as goal
-
-pub returns : goal.returns
-returns c = λ w h. ap pos (number_is w.text h)

@@ -1,5 +1,0 @@
-use Rattle.campl_words.proofs.Spelled.{literal_text}
-use Rattle.campl_words.proofs.laws.text_is_spelled.Goals as goal
-
-pub returns : goal.returns
-returns c = literal_text
