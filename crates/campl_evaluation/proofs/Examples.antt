@@ -1,5 +1,5 @@
 -- Evaluations that compute.
-use Rattle.std.proofs.Common.{◌≡◌, refl, ℕ, pos, [], ◌∷◌, List, codes}
+use Rattle.std.proofs.Common.{◌≡◌, refl, ℕ, zero, suc, pos, [], ◌∷◌, List, codes}
 use Rattle.campl_tree.specs.declared.place.Ident.{Ident}
 use Rattle.campl_tree.specs.declared.expr.Arithmetic.TheVariants as op
 use Rattle.campl_tree.specs.Plain.SeqType as s
@@ -11,7 +11,7 @@ use Rattle.campl_types.specs.SameType.{nowhere}
 use Rattle.campl_types.specs.Names.{Name}
 use Rattle.campl_types.specs.Sequential.{RowIsTyped}
 use Rattle.campl_types.specs.World.{World, world_of}
-use Rattle.campl_evaluation.specs.Evaluation.{Done, Wrong, More, value_of}
+use Rattle.campl_evaluation.specs.Evaluation.{Done, Deep, Wrong, More, made, value_of}
 
 abbrev ident : Name → Ident
 ident x = record { place = nowhere; name = x }
@@ -98,3 +98,14 @@ no-row = refl
 -- a polymorphic recursion has its type
 recursion : RowIsTyped w depth deeper
 recursion = ((codes "n", nest (s.Pair a a)) ∷ [], refl, refl, (refl, refl, (depth, refl, (s.Pair a a ∷ [], refl, refl, ((nest (s.Pair a a), refl, refl), tt), tt))))
+
+-- a value of depth 4,096 is made, and one of depth 4,097 is too deep
+abbrev tower : ℕ → v.Tree
+tower zero = v.Nil
+tower (suc n) = v.Cell v.Nil (tower n)
+
+deep-enough : made (tower 4095) 0 ≡ Done (tower 4095) 0
+deep-enough = refl
+
+too-deep : made (tower 4096) 0 ≡ Deep 0
+too-deep = refl
