@@ -4,6 +4,8 @@
 import os
 import sys
 
+import function_cases
+import functions
 import grammar
 import grammar_cases
 import name_cases
@@ -13,6 +15,7 @@ MOST_BYTES = 1_048_576
 PHASES = {
     "grammar": (grammar_cases.all_cases, grammar.answer),
     "names": (name_cases.all_cases, names.answer),
+    "functions": (function_cases.all_cases, functions.answer),
 }
 
 

@@ -183,6 +183,23 @@ def two_fault_cases():
     yield "the first function before the second", function("Int", "_ -> 'c'").replace(RUN, "fun worse :: -> Int where\n -> 'd'\n" + RUN)
 
 
+def nested(depth, operators):
+    """A sum under so many calls."""
+    return "id(" * depth + " + ".join(["1"] * (operators + 1)) + ")" * depth
+
+
+def whole_cases():
+    pair = "fun pair :: a, (b, a) -> Int where\n _, _ -> 0\n"
+    lists = "data Pair(a, b) where\n Pair(a, b)\nfun lists :: [Pair(a, b)] -> Int where\n _ -> 0\n"
+    yield "a function without parameters", "fun f :: -> Int where\n -> 1 + True\n" + RUN
+    yield "a sum under many calls", function("Int", "_ -> " + nested(40, 60))
+    yield "a character in a sum under many calls", function("Int", "_ -> " + nested(40, 60).replace("1)", "'c')", 1))
+    for arguments in ["1, (True, 'c')", "1, (True, 2)", "1, 2", "[], (1, 1)", "1, ([], 1)"]:
+        yield "pair(%s)" % arguments, pair + "fun bad :: -> Int where\n -> pair(%s)\n" % arguments + RUN
+    for argument in ["[]", "[Pair(1, 'c')]", "[Pair([], 1)]", "1"]:
+        yield "lists(%s)" % argument, lists + "fun bad :: -> Int where\n -> lists(%s)\n" % argument + RUN
+
+
 def worked_cases():
     for name in ["uses_all_expressions", "bank", "chain_of_stages", "first_row_wins", "fills_a_text", "first_of_texts"]:
         yield "worked: " + name, worked(name)
@@ -195,7 +212,7 @@ def named_once(cases):
 
 def all_cases():
     cases = named_once(
-        [*checked_cases(), *found_cases(), *pattern_cases(), *row_cases(), *two_fault_cases(), *worked_cases()]
+        [*checked_cases(), *found_cases(), *pattern_cases(), *row_cases(), *two_fault_cases(), *whole_cases(), *worked_cases()]
     )
     counts = Counter(answer(text).split(" at ")[0] for _, text in cases)
     for fault in ("E30 TypeDiffers", "E31 NeedsType", "E32 NotExhaustive", "E33 ArgumentCount", "E34 NameTwiceInPattern", "typed"):

@@ -7,4 +7,5 @@ pub mod Phases
 pub mod Shapes
 pub mod Limits
 pub mod OneAnswer
+pub mod Judging
 pub mod OneFault

@@ -16,7 +16,7 @@ use Rattle.campl_grammar.proofs.Exactness.{one_tree}
 use Rattle.campl_terminals.specs.Terminals.{terminals_of}
 use Rattle.campl_parse.specs.Parsing as parsing
 use Rattle.campl_cli.specs.declared.fault.FaultKind.{FaultKind}
-use Rattle.campl_cli.specs.declared.fault.FaultKind.TheVariants.{BadCharacter, OpenString, BadEscape, NumberTooLarge, NameTooLong, Tab, BadColumn, TextTooLong, Unexpected, TooDeep, Twice, Unknown, WrongKind, NoRun, RunNotService, TypeArguments}
+use Rattle.campl_cli.specs.declared.fault.FaultKind.TheVariants.{BadCharacter, OpenString, BadEscape, NumberTooLarge, NameTooLong, Tab, BadColumn, TextTooLong, Unexpected, TooDeep, Twice, Unknown, WrongKind, NoRun, RunNotService, TypeArguments, TypeDiffers, NeedsType, NotExhaustive, ArgumentCount, NameTwiceInPattern}
 use Rattle.campl_cli.specs.Source.{HasTokens, HasLayout, HasTree, IsTextFault}
 
 -- ---- tokens and layout
@@ -105,6 +105,11 @@ tree_without_fault text program WrongKind at has fault = fault
 tree_without_fault text program NoRun at has fault = fault
 tree_without_fault text program RunNotService at has fault = fault
 tree_without_fault text program TypeArguments at has fault = fault
+tree_without_fault text program TypeDiffers at has fault = fault
+tree_without_fault text program NeedsType at has fault = fault
+tree_without_fault text program NotExhaustive at has fault = fault
+tree_without_fault text program ArgumentCount at has fault = fault
+tree_without_fault text program NameTwiceInPattern at has fault = fault
 
 pub same_tree : (text : List ℕ) (this that : Program) → HasTree text this → HasTree text that → this ≡ that
 same_tree text this that (laid, layout, has) (others, lie, have) =

@@ -17,7 +17,7 @@ use Rattle.campl_grammar.specs.Rules.{IsProgram, limit}
 use Rattle.campl_terminals.specs.Terminals.{terminals_of}
 use Rattle.campl_parse.specs.Parsing.{StandsAt}
 use Rattle.campl_cli.specs.declared.fault.FaultKind.{FaultKind}
-use Rattle.campl_cli.specs.declared.fault.FaultKind.TheVariants.{BadCharacter, OpenString, BadEscape, NumberTooLarge, NameTooLong, Tab, BadColumn, TextTooLong, Unexpected, TooDeep, Twice, Unknown, WrongKind, NoRun, RunNotService, TypeArguments}
+use Rattle.campl_cli.specs.declared.fault.FaultKind.TheVariants.{BadCharacter, OpenString, BadEscape, NumberTooLarge, NameTooLong, Tab, BadColumn, TextTooLong, Unexpected, TooDeep, Twice, Unknown, WrongKind, NoRun, RunNotService, TypeArguments, TypeDiffers, NeedsType, NotExhaustive, ArgumentCount, NameTwiceInPattern}
 use Rattle.campl_cli.specs.Source.{HasTokens, HasLayout, IsTextFault, end_of}
 use Rattle.campl_cli.proofs.OneAnswer.{among, same_tokens, same_layout, no_fault}
 
@@ -148,6 +148,11 @@ found text WrongKind at h = absurd h
 found text NoRun at h = absurd h
 found text RunNotService at h = absurd h
 found text TypeArguments at h = absurd h
+found text TypeDiffers at h = absurd h
+found text NeedsType at h = absurd h
+found text NotExhaustive at h = absurd h
+found text ArgumentCount at h = absurd h
+found text NameTwiceInPattern at h = absurd h
 
 same_fault_of_tokens : (text : List ℕ) (these those : LexFault) → Lexes first_spot (chars text) (Err these) → Lexes first_spot (chars text) (Err those) → these ≡ those
 same_fault_of_tokens text these those h k = let e : ◌≡◌ {A = Result (List Token) LexFault} (Err these) (Err those) = one h k in cc

@@ -9,7 +9,7 @@ use Rattle.campl_cli.specs.declared.refusal.Refusal.{Refusal}
 use Rattle.campl_cli.specs.declared.refusal.Refusal.TheVariants.{BadCommandLine, ReadFault, TooLong, NotUtf8, Source, NotBuilt, OutOfMemory}
 use Rattle.campl_cli.specs.Faults.{message_of_fault}
 use Rattle.campl_cli.specs.Form.{Prints, IsFormOf}
-use Rattle.campl_cli.specs.Source.{HasNames, IsSourceFault}
+use Rattle.campl_cli.specs.Source.{HasJudged, IsSourceFault}
 use Rattle.campl_cli.specs.Words.{IsCommand}
 
 -- the most bytes that a source has
@@ -70,14 +70,14 @@ IsText contents text = IsReading contents source_limit (Ok text)
 abbrev pub HasText : Files → (file text : List ℕ) → Type 0
 HasText files file text = IsTextWithin source_limit text × IfSome (files.held file) (λ contents. IsText contents text)
 
--- the text has a tree of the form, which is well declared, and prints this
+-- the text has a tree of the form, which is judged to have no fault, and prints this
 abbrev pub PrintsText : List ℕ → Prints → Type 0
-PrintsText text p = (program : Program) × HasNames text program × IsFormOf p program
+PrintsText text p = (program : Program) × HasJudged text program × IsFormOf p program
 
 -- when a text is refused so: it has a fault, or is of another form; want of memory alone comes freely
 abbrev pub IsRefusedText : List ℕ → Refusal → Type 0
 IsRefusedText text (Source fault) = IsSourceFault text fault
-IsRefusedText text NotBuilt = (program : Program) × HasNames text program × ((p : Prints) → IsFormOf p program → ⊥)
+IsRefusedText text NotBuilt = (program : Program) × HasJudged text program × ((p : Prints) → IsFormOf p program → ⊥)
 IsRefusedText text OutOfMemory = ⊤
 IsRefusedText text BadCommandLine = ⊥
 IsRefusedText text TooLong = ⊥

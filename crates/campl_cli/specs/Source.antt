@@ -1,4 +1,5 @@
--- What a source is: its tokens, their layout, the tree of its words, and names that are well declared; or its first fault.
+-- What a source is: its tokens, their layout, the tree of its terminals, names that are well declared, and functions
+-- that are typed; or its first fault.
 use Rattle.std.specs.Prelude.{◌≡◌, ◌⊎◌, Option, Some, None, ℕ, List, ◌∷◌, Ok, Err, chars, ⊤}
 use Rattle.campl_tree.specs.declared.place.Place.{Place}
 use Rattle.campl_tree.specs.declared.decl.Program.{Program}
@@ -17,13 +18,19 @@ use Rattle.campl_cli.specs.declared.fault.SourceFault.{SourceFault}
 use Rattle.campl_cli.specs.declared.refusal.Refusal.{Refusal}
 use Rattle.campl_cli.specs.declared.refusal.Refusal.TheVariants.{BadCommandLine, ReadFault, TooLong, NotUtf8, Source, NotBuilt, OutOfMemory}
 use Rattle.campl_cli.specs.declared.fault.FaultKind.{FaultKind}
-use Rattle.campl_cli.specs.declared.fault.FaultKind.TheVariants.{BadCharacter, OpenString, BadEscape, NumberTooLarge, NameTooLong, Tab, BadColumn, TextTooLong, Unexpected, TooDeep, Twice, Unknown, WrongKind, NoRun, RunNotService, TypeArguments}
-use Rattle.campl_cli.specs.declared.fault.Detail.TheVariants.{Nothing, Named, Counted}
+use Rattle.campl_cli.specs.declared.fault.FaultKind.TheVariants.{BadCharacter, OpenString, BadEscape, NumberTooLarge, NameTooLong, Tab, BadColumn, TextTooLong, Unexpected, TooDeep, Twice, Unknown, WrongKind, NoRun, RunNotService, TypeArguments, TypeDiffers, NeedsType, NotExhaustive, ArgumentCount, NameTwiceInPattern}
+use Rattle.campl_cli.specs.declared.fault.Detail.TheVariants.{Nothing, Named, Counted, Differing, Missing}
 use Rattle.campl_tree.specs.View.{view_program}
 use Rattle.campl_tree.specs.Plain.Decl as d
 use Rattle.campl_types.specs.declared.fault.NameFault.{NameFault}
 use Rattle.campl_types.specs.declared.fault.NameFault.TheVariants as naming
+use Rattle.campl_types.specs.Sequential.{FunctionsAreTyped}
 use Rattle.campl_types.specs.WellDeclared.{name_faults, IsWellDeclared}
+use Rattle.campl_types.specs.World.{world_of}
+use Rattle.campl_seqcheck.specs.declared.fault.SeqFault.{SeqFault}
+use Rattle.campl_seqcheck.specs.declared.fault.SeqFault.TheVariants as typing
+use Rattle.campl_seqcheck.specs.Functions.{judge_functions}
+use Rattle.campl_seqcheck.specs.Judged.{Fails}
 
 -- the text has these tokens
 abbrev pub HasTokens : List ℕ → List Token → Type 0
@@ -37,11 +44,11 @@ end_of text = place_past first_place (chars text)
 abbrev pub HasLayout : List ℕ → List Token → Type 0
 HasLayout text laid = (tokens : List Token) × HasTokens text tokens × (laid_out text (end_of text) tokens ≡ Ok laid)
 
--- the text has a layout whose words, nested no deeper than the limit, are a program with this tree
+-- the text has a layout whose terminals, nested no deeper than the limit, are a program with this tree
 abbrev pub HasTree : List ℕ → Program → Type 0
 HasTree text program = (laid : List Token) × HasLayout text laid × parsing.HasTree (terminals_of text laid) program
 
--- the text has a layout, and a fault stands at a word of it
+-- the text has a layout, and a fault stands at a terminal of it
 abbrev pub HasNoTree : List ℕ → (List Terminal → List Terminal → Type 0) → Place → Type 0
 HasNoTree text is at = (laid : List Token) × HasLayout text laid × parsing.StandsAt is (terminals_of text laid) at
 
@@ -63,14 +70,20 @@ IsTextFault text WrongKind at = ⊥
 IsTextFault text NoRun at = ⊥
 IsTextFault text RunNotService at = ⊥
 IsTextFault text TypeArguments at = ⊥
+IsTextFault text TypeDiffers at = ⊥
+IsTextFault text NeedsType at = ⊥
+IsTextFault text NotExhaustive at = ⊥
+IsTextFault text ArgumentCount at = ⊥
+IsTextFault text NameTwiceInPattern at = ⊥
 
--- the text has a tree, which is well declared
-abbrev pub HasNames : List ℕ → Program → Type 0
-HasNames text program = HasTree text program × IsWellDeclared (view_program program)
+-- names are well declared, and functions typed
+pub record IsJudged (program : d.Program) : Type 0 where
+  pub names : IsWellDeclared program
+  pub functions : FunctionsAreTyped (world_of program) program
 
--- the text has a tree, of whose faults of names this is the first
-abbrev pub HasNameFault : List ℕ → NameFault → Type 0
-HasNameFault text fault = (program : Program) × HasTree text program × ((more : List NameFault) × (name_faults (view_program program) ≡ fault ∷ more))
+-- the text has a tree, of which that holds
+abbrev pub HasJudged : List ℕ → Program → Type 0
+HasJudged text program = HasTree text program × IsJudged (view_program program)
 
 -- how a fault of names is told
 abbrev pub told_of_names : NameFault → Option SourceFault
@@ -82,13 +95,32 @@ told_of_names (naming.NoRun at) = Some (record { kind = NoRun; place = at; detai
 told_of_names (naming.RunNotService at) = Some (record { kind = RunNotService; place = at; detail = Nothing })
 told_of_names naming.OutOfMemory = None
 
+-- a program's first fault of names, as it is told
+abbrev pub IsToldOfNames : d.Program → SourceFault → Type 0
+IsToldOfNames program f = (fault : NameFault) × ((more : List NameFault) × (name_faults program ≡ fault ∷ more)) × (told_of_names fault ≡ Some f)
+
+-- how a fault of functions is told
+abbrev pub told_of_functions : SeqFault → Option SourceFault
+told_of_functions (typing.TypeDiffers at found wanted) = Some (record { kind = TypeDiffers; place = at; detail = Differing found wanted })
+told_of_functions (typing.NeedsType at) = Some (record { kind = NeedsType; place = at; detail = Nothing })
+told_of_functions (typing.NotExhaustive at patterns) = Some (record { kind = NotExhaustive; place = at; detail = Missing patterns })
+told_of_functions (typing.ArgumentCount at found wanted) = Some (record { kind = ArgumentCount; place = at; detail = Counted found wanted })
+told_of_functions (typing.NameTwiceInPattern at x) = Some (record { kind = NameTwiceInPattern; place = at; detail = Named x })
+told_of_functions typing.OutOfMemory = None
+
+-- the first fault of the functions of a well declared program, as it is told
+abbrev pub IsToldOfFunctions : d.Program → SourceFault → Type 0
+IsToldOfFunctions program f =
+    IsWellDeclared program × ((fault : SeqFault) × (judge_functions (world_of program) program ≡ Fails fault) × (told_of_functions fault ≡ Some f))
+
 -- the text's first fault of tokens, of layout or of the grammar, as it is told: with no detail
 abbrev pub IsToldOfText : List ℕ → SourceFault → Type 0
 IsToldOfText text f = (f.detail ≡ Nothing) × IsTextFault text f.kind f.place
 
--- the text's first fault: that, or where it has a tree, the first of its names
+-- the text's first fault: that, or where it has a tree, the first of its names, or else of its functions
 abbrev pub IsSourceFault : List ℕ → SourceFault → Type 0
-IsSourceFault text f = IsToldOfText text f ⊎ ((fault : NameFault) × HasNameFault text fault × (told_of_names fault ≡ Some f))
+IsSourceFault text f =
+    IsToldOfText text f ⊎ ((program : Program) × HasTree text program × (IsToldOfNames (view_program program) f ⊎ IsToldOfFunctions (view_program program) f))
 
 -- the refusal for a fault of tokens or of layout
 abbrev pub refusal_of_lexing : LexFault → Refusal
@@ -121,12 +153,28 @@ refused_for None = OutOfMemory
 abbrev pub refusal_of_naming : NameFault → Refusal
 refusal_of_naming fault = refused_for (told_of_names fault)
 
--- a program whose names aren't well declared is refused for their first fault; want of memory alone comes freely
+-- the refusal for a fault of functions
+abbrev pub refusal_of_typing : SeqFault → Refusal
+refusal_of_typing fault = refused_for (told_of_functions fault)
+
+-- a program is refused for a fault that is told so; want of memory alone comes freely
+abbrev pub IsRefusedFor : (SourceFault → Type 0) → Refusal → Type 0
+IsRefusedFor told (Source f) = told f
+IsRefusedFor told OutOfMemory = ⊤
+IsRefusedFor told BadCommandLine = ⊥
+IsRefusedFor told TooLong = ⊥
+IsRefusedFor told (NotUtf8 at) = ⊥
+IsRefusedFor told NotBuilt = ⊥
+IsRefusedFor told ReadFault = ⊥
+
+-- a program whose names aren't well declared is refused for their first fault
 abbrev pub IsRefusedForNames : d.Program → Refusal → Type 0
-IsRefusedForNames program (Source f) = (fault : NameFault) × ((more : List NameFault) × (name_faults program ≡ fault ∷ more)) × (told_of_names fault ≡ Some f)
-IsRefusedForNames program OutOfMemory = ⊤
-IsRefusedForNames program BadCommandLine = ⊥
-IsRefusedForNames program TooLong = ⊥
-IsRefusedForNames program (NotUtf8 at) = ⊥
-IsRefusedForNames program NotBuilt = ⊥
-IsRefusedForNames program ReadFault = ⊥
+IsRefusedForNames program = IsRefusedFor (IsToldOfNames program)
+
+-- and a program that is, for the first of its functions
+abbrev pub IsRefusedForFunctions : d.Program → Refusal → Type 0
+IsRefusedForFunctions program = IsRefusedFor (IsToldOfFunctions program)
+
+-- for either
+abbrev pub IsRefusedJudged : d.Program → Refusal → Type 0
+IsRefusedJudged program = IsRefusedFor (λ f. IsToldOfNames program f ⊎ IsToldOfFunctions program f)

@@ -5,8 +5,8 @@ ghost use Rattle.campl_cli.specs.Form.{Prints, prints_of};
 ghost use Rattle.campl_cli.specs.Performance.{IsPerformance};
 ghost use Rattle.campl_cli.specs.Refusals.{files, PrintsText, IsRefusedText, IsSource, IsRefusedSource, IsAccepted, IsDue};
 
+use crate::functions::judge;
 use crate::gate::Gate;
-use crate::names::judge_names;
 use crate::performance::{Performance, perform, print};
 use crate::printer::{Printer, printer_of};
 use crate::refusal::{Refusal, SOURCE_LIMIT};
@@ -97,7 +97,7 @@ fn read_printer(alloc: Global, text: &Text) -> Result<Printer, Refusal>
     let Ok(printer) = printer_of(alloc, &program) else {
         return Err(Refusal::OutOfMemory);
     };
-    judge_names(alloc, program)?;
+    judge(alloc, program)?;
     match printer {
         Some(printer) => Ok(printer),
         None => Err(Refusal::NotBuilt),

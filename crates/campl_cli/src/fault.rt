@@ -2,6 +2,7 @@
 ghost use Rattle.std.specs.Prelude.{◌≡◌};
 ghost use Rattle.campl_cli.specs.Faults.{code_of};
 
+use campl_shown::Shown;
 use campl_tree::{Name, Place};
 use thiserror::Error;
 
@@ -25,17 +26,28 @@ pub enum Detail {
     /// A number that was found where another is wanted.
     #[error(": found {found}, wanted {wanted}")]
     Counted { found: usize, wanted: usize },
+    /// A type that is found where another is wanted.
+    #[error(": found {0}, wanted {1}")]
+    Differing(Shown, Shown),
+    /// The patterns that no row covers.
+    #[error(": missing {0}")]
+    Missing(Shown),
 }
 
 impl Drop for Detail {
     fn drop(self) {
         match self {
+            Detail::Nothing => {}
             Detail::Named(name) => drop(name),
-            Detail::Nothing
-            | Detail::Counted {
+            Detail::Counted {
                 found: _,
                 wanted: _,
-            } => (),
+            } => {}
+            Detail::Differing(found, wanted) => {
+                drop(found);
+                drop(wanted);
+            }
+            Detail::Missing(patterns) => drop(patterns),
         }
     }
 }
@@ -75,6 +87,16 @@ pub enum FaultKind {
     RunNotService,
     /// A named type with another number of arguments than its declaration has parameters.
     TypeArguments,
+    /// An expression or a pattern of another type than is wanted.
+    TypeDiffers,
+    /// An expression that doesn't tell its type.
+    NeedsType,
+    /// Rows that don't cover all values.
+    NotExhaustive,
+    /// Another number of arguments than is declared, or of patterns in a row.
+    ArgumentCount,
+    /// A row of patterns that binds a name twice.
+    NameTwiceInPattern,
 }
 
 impl FaultKind {
@@ -99,6 +121,11 @@ impl FaultKind {
             FaultKind::NoRun => "E23 NoRun",
             FaultKind::RunNotService => "E24 RunNotService",
             FaultKind::TypeArguments => "E25 TypeArguments",
+            FaultKind::TypeDiffers => "E30 TypeDiffers",
+            FaultKind::NeedsType => "E31 NeedsType",
+            FaultKind::NotExhaustive => "E32 NotExhaustive",
+            FaultKind::ArgumentCount => "E33 ArgumentCount",
+            FaultKind::NameTwiceInPattern => "E34 NameTwiceInPattern",
         }
     }
 }

@@ -5,6 +5,7 @@
 
 mod command;
 mod fault;
+mod functions;
 mod gate;
 mod names;
 mod output;
@@ -19,6 +20,7 @@ mod words;
 
 pub use command::campl;
 pub use fault::{Detail, FaultKind, SourceFault};
+pub use functions::{judge, judge_functions};
 pub use gate::{Gate, OpenGate};
 pub use names::judge_names;
 pub use printer::{Printer, printer_of};

@@ -1,22 +1,24 @@
 //! Whether the names of a tree are well declared.
-ghost use Rattle.std.specs.Prelude.{◌≡◌, MatchResult};
-ghost use Rattle.campl_tree.specs.View.{view_program};
+ghost use Rattle.std.specs.Prelude.{◌≡◌, IfOk, MatchResult, map};
+ghost use Rattle.campl_tree.specs.View.{view_decl, view_program};
 ghost use Rattle.campl_types.specs.WellDeclared.{IsWellDeclared};
+ghost use Rattle.campl_types.specs.World.{world_of};
 ghost use Rattle.campl_cli.specs.Source.{refusal_of_naming, IsRefusedForNames};
 
 use crate::fault::FaultKind;
 use crate::refusal::Refusal;
-use campl_names::declare;
+use campl_names::{World, declare};
 use campl_tree::Program;
 use campl_types::NameFault;
 use std::alloc::Global;
 
-/// Judges the names of a program.
-pub fn judge_names(alloc: Global, program: Program) -> Result<(), Refusal>
-    ensures { MatchResult result (λ _. IsWellDeclared (view_program program)) (IsRefusedForNames (view_program program)) }
+/// The world of a program whose names are well declared.
+pub fn judge_names(alloc: Global, program: Program) -> Result<World, Refusal>
+    ensures judged { MatchResult result (λ _. IsWellDeclared (view_program program)) (IsRefusedForNames (view_program program)) }
+    ensures world { IfOk result (λ world. map view_decl world ≡ world_of (view_program program)) }
 {
     match declare(alloc, program) {
-        Ok(_) => Ok(()),
+        Ok(world) => Ok(world),
         Err(fault) => Err(refusal_of(fault)),
     }
 }

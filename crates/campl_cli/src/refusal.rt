@@ -3,6 +3,7 @@ ghost use Rattle.std.specs.Prelude.{◌≡◌};
 ghost use Rattle.campl_cli.specs.Refusals.{status_of};
 
 use crate::fault::{Detail, FaultKind, SourceFault};
+use campl_shown::Shown;
 use campl_tree::{Name, Place};
 use thiserror::Error;
 
@@ -21,10 +22,10 @@ pub enum Refusal {
     /// The source isn't UTF-8; its longest front that is has `at` bytes.
     #[error("source isn't UTF-8 at byte {at}")]
     NotUtf8 { at: u64 },
-    /// The source has no tokens, no layout or no tree, or its names aren't well declared.
+    /// The source has no tokens, no layout or no tree, its names aren't well declared, or its functions aren't typed.
     #[error("{0}")]
     Source(SourceFault),
-    /// The source has a tree, and isn't of the form that runs so far.
+    /// The source has a tree whose names and functions have no fault, and isn't of the form that runs so far.
     #[error("E60 NotBuilt at 1:1")]
     NotBuilt,
     /// The source can't be read.
@@ -80,6 +81,28 @@ impl Refusal {
             kind,
             place,
             detail: Detail::Counted { found, wanted },
+        })
+    }
+
+    /// The source has this fault of a type that is found where another is wanted.
+    pub(crate) fn of_types(kind: FaultKind, place: Place, found: Shown, wanted: Shown) -> Refusal
+        ensures { result ≡ Refusal.Source (record { kind = kind; place = place; detail = Detail.Differing found wanted }) }
+    {
+        Refusal::Source(SourceFault {
+            kind,
+            place,
+            detail: Detail::Differing(found, wanted),
+        })
+    }
+
+    /// The source has this fault of patterns that are missing.
+    pub(crate) fn of_patterns(kind: FaultKind, place: Place, missing: Shown) -> Refusal
+        ensures { result ≡ Refusal.Source (record { kind = kind; place = place; detail = Detail.Missing missing }) }
+    {
+        Refusal::Source(SourceFault {
+            kind,
+            place,
+            detail: Detail::Missing(missing),
         })
     }
 

@@ -1,4 +1,4 @@
-//! From the text of a source to its tree: tokens, layout, words.
+//! From the text of a source to its tree: tokens, layout, terminals.
 ghost use Rattle.std.specs.Prelude.{◌≡◌, ℕ, List, MatchResult, IfOk};
 ghost use Rattle.std.specs.List.{All};
 ghost use Rattle.campl_lex.specs.Layout.{IsWritten, IsWhole};
@@ -59,7 +59,7 @@ fn layout_of(alloc: Global, text: &Text) -> Result<Vec<Token>, Refusal>
     }
 }
 
-/// The tree of a text, or its first fault: that of its tokens, then that of its layout, and then that of its words.
+/// The tree of a text, or its first fault: that of its tokens, then that of its layout, and then that of its terminals.
 pub fn tree_of(alloc: Global, text: &Text) -> Result<Program, Refusal>
     ensures { MatchResult result (HasTree text.now) (IsTreeRefusal text.now) }
 {

@@ -94,6 +94,10 @@ fn message_of(alloc: Global, detail: &Detail) -> Result<String, AllocError>
         Detail::Counted { found, wanted } => {
             format!(in alloc; ": found {found}, wanted {wanted}")
         }
+        Detail::Differing(found, wanted) => {
+            format!(in alloc; ": found {found}, wanted {wanted}")
+        }
+        Detail::Missing(patterns) => format!(in alloc; ": missing {patterns}"),
     }
 }
 

@@ -6,6 +6,7 @@ pub mod AgreesMatch
 pub mod AgreesStable
 pub mod AgreesCalls
 pub mod AgreesWanted
+pub mod AgreesRows
 pub mod AgreesSound
 pub mod AgreesAlike
 pub mod AgreesRefit
@@ -15,3 +16,10 @@ pub mod AgreesComplete
 pub mod AgreesFunctions
 pub mod AgreesLaws
 mod AgreesExamples
+pub mod Answered
+pub mod Nodes
+pub mod Callees
+pub mod Judges
+pub mod RowsJudged
+pub mod Turns
+pub mod Falls

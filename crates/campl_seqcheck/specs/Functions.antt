@@ -1,26 +1,22 @@
--- Functions judged in source order. The rows of a function are judged in order, each for its number of
--- patterns, then its patterns, then its value; whether they are exhaustive is judged last.
-use Rattle.std.specs.Prelude.{List, [], ◌∷◌, length}
+-- Functions judged in source order. Of each row of a function the value is judged behind the patterns, before
+-- the next row is.
+use Rattle.std.specs.Prelude.{List, [], ◌∷◌, map}
 use Rattle.campl_tree.specs.Plain.Decl.{FunctionDecl, FunctionRow, Decl, Data, Protocol, Coprotocol, Function, Process}
-use Rattle.campl_types.specs.Sequential.{function_rows}
 use Rattle.campl_types.specs.World.{World}
-use Rattle.std.specs.Prelude.{Some}
 use Rattle.campl_seqcheck.specs.declared.fault.SeqFault.{SeqFault}
 use Rattle.campl_seqcheck.specs.Judged.{Judged, Is, Fine, fine, and_then}
-use Rattle.campl_seqcheck.specs.Fitting.{counted, number_of, fit_all}
-use Rattle.campl_seqcheck.specs.Judging.{judge, exhaustive}
+use Rattle.campl_seqcheck.specs.RowPatterns.{MatchRow, judge_match}
+use Rattle.campl_seqcheck.specs.Judging.{checked}
 
-abbrev pub judge_function_row : World → FunctionDecl → FunctionRow → Judged SeqFault Fine
-judge_function_row w f r =
-    and_then (counted r.place (number_of r.patterns) (length f.parameters)) (λ _. and_then (fit_all w [] r.patterns f.parameters) (λ xs.
-    and_then (judge w xs r.value (Some f.result)) (λ _. Is fine)))
+-- behind a row's patterns, its value is of the result's type
+abbrev pub function_match : World → FunctionDecl → FunctionRow → MatchRow
+function_match w f r = record { place = r.place; patterns = r.patterns; behind = λ xs. checked w xs r.value f.result }
 
-abbrev pub judge_function_rows : World → FunctionDecl → List FunctionRow → Judged SeqFault Fine
-judge_function_rows w f [] = Is fine
-judge_function_rows w f (r ∷ rows) = and_then (judge_function_row w f r) (λ _. judge_function_rows w f rows)
+abbrev pub function_matches : World → FunctionDecl → List FunctionRow → List MatchRow
+function_matches w f = map (function_match w f)
 
 abbrev pub judge_function : World → FunctionDecl → Judged SeqFault Fine
-judge_function w f = and_then (judge_function_rows w f f.rows) (λ _. exhaustive f.place w (function_rows f.rows) f.parameters)
+judge_function w f = judge_match f.place w f.parameters (function_matches w f f.rows)
 
 abbrev pub judge_decl : World → Decl → Judged SeqFault Fine
 judge_decl w (Function f) = judge_function w f

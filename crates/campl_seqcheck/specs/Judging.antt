@@ -8,21 +8,20 @@ use Rattle.campl_tree.specs.Plain.SeqType as s
 use Rattle.campl_tree.specs.Plain.Expr as e
 use Rattle.campl_tree.specs.Plain.Expr.{Expr, Exprs, ExprRows}
 use Rattle.campl_tree.specs.Plain.Decl.{FunctionDecl}
+use Rattle.campl_tree.specs.Plain.Pattern.{no_patterns, pattern_then}
 use Rattle.campl_types.specs.Names.{Name, found, all_among}
 use Rattle.campl_types.specs.Substitution.{Filling, filled}
 use Rattle.campl_types.specs.SameTest.{same_seq}
-use Rattle.campl_types.specs.Sequential.{whole, expr_rows}
-use Rattle.campl_types.specs.Missing.{Row, missing}
-use Rattle.campl_types.specs.Forms.{Form}
+use Rattle.campl_types.specs.Sequential.{whole}
 use Rattle.campl_types.specs.Fits.{Vars}
 use Rattle.campl_types.specs.World.{World, ConstructorEntry, OfData, OfProtocol, OfCoprotocol, constructor_named, function_named, names_of, type_parameters}
 use Rattle.campl_shown.specs.Types.{type_text, type_text_at}
-use Rattle.campl_missing.specs.Texts.{forms_text}
 use Rattle.campl_seqcheck.specs.declared.fault.SeqFault.{SeqFault}
-use Rattle.campl_seqcheck.specs.declared.fault.SeqFault.TheVariants.{TypeDiffers, NeedsType, NotExhaustive}
+use Rattle.campl_seqcheck.specs.declared.fault.SeqFault.TheVariants.{TypeDiffers, NeedsType}
 use Rattle.campl_seqcheck.specs.Judged.{Judged, Is, Fails, Fine, fine, and_then}
 use Rattle.campl_matching.specs.Matching.{bound_names, is_known, matched}
 use Rattle.campl_seqcheck.specs.Fitting.{counted, item_type, pair_types, fit}
+use Rattle.campl_seqcheck.specs.RowPatterns.{MatchRow, bare_row, judge_match}
 
 -- the type that is wanted, if one is
 abbrev pub Wanted : Type 0
@@ -115,18 +114,10 @@ called_constructor at None number wanted judge_parts = Fails (NeedsType at)
 
 -- Rows
 
-abbrev covered : Place → Option (List Form) → Judged SeqFault Fine
-covered at None = Is fine
-covered at (Some ps) = Fails (NotExhaustive at (forms_text ps))
-
--- no value of the types is missing
-abbrev pub exhaustive : Place → World → List Row → List SeqType → Judged SeqFault Fine
-exhaustive at w rows ts = covered at (missing w rows ts)
-
--- the patterns of rows
-abbrev pub fit_rows : World → ExprRows → SeqType → Judged SeqFault Fine
-fit_rows w e.no_expr_rows t = Is fine
-fit_rows w (e.expr_row_then p a rows) t = and_then (fit w [] p t) (λ _. fit_rows w rows t)
+-- the rows of a `case`, behind whose patterns nothing is judged yet
+abbrev pub case_rows : Place → ExprRows → List MatchRow
+case_rows at e.no_expr_rows = []
+case_rows at (e.expr_row_then p a rows) = bare_row at (pattern_then p no_patterns) ∷ case_rows at rows
 
 -- Expressions
 
@@ -155,8 +146,7 @@ abbrev mutual
   judge w vs (e.If at c a b) wanted =
       and_then (judge w vs c (Some Bool)) (λ _. and_then (judge w vs a wanted) (λ t. judge w vs b (Some t)))
   judge w vs (e.Case at a rows) wanted =
-      and_then (judge w vs a None) (λ t. and_then (fit_rows w rows t) (λ _. and_then (exhaustive at w (expr_rows rows) (t ∷ [])) (λ _.
-      judge_rows at w vs rows t wanted)))
+      and_then (judge w vs a None) (λ t. and_then (judge_match at w (t ∷ []) (case_rows at rows)) (λ _. judge_rows at w vs rows t wanted))
   judge w vs (e.Compare at a op b) wanted =
       and_then (judge w vs a None) (λ t. and_then (a_comparable (expr_place a) t) (λ _. and_then (judge w vs b (Some t)) (λ _. meets at wanted Bool)))
   judge w vs (e.Or at a b) wanted = and_then (judge w vs a (Some Bool)) (λ _. and_then (judge w vs b (Some Bool)) (λ _. meets at wanted Bool))

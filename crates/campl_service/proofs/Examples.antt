@@ -12,11 +12,11 @@ use Rattle.campl_service.specs.Scripts.{Lines}
 use Rattle.campl_service.specs.Transcripts.{Took, Sent, Closed, Records}
 use Rattle.campl_service.specs.Services.{Serving, request, action, want}
 use Rattle.campl_service.specs.Output.{transcript_lines}
-use Rattle.std.proofs.Common.{Ok, Err, Bool, true, List}
+use Rattle.std.proofs.Common.{Ok, Err, List}
 use Rattle.campl_tree.specs.declared.service.ServiceName.{ServiceName}
 use Rattle.campl_tree.specs.declared.service.Side.TheVariants.{Input, Output}
-use Rattle.campl_service.specs.declared.entry.Version.TheVariants.{One, Two}
-use Rattle.campl_service.specs.declared.fault.ScriptFault.TheVariants.{NoColon, UnknownChannel, LineTooLong, TooManyLines, BadEscape}
+use Rattle.campl_service.specs.declared.entry.Version.TheVariants.{One}
+use Rattle.campl_service.specs.declared.fault.ScriptFault.TheVariants.{NoColon, UnknownChannel, TooManyLines, BadEscape}
 use Rattle.campl_service.specs.Escapes.{unescaped}
 use Rattle.campl_service.specs.Reading.{lines_of, scripts_of, judged_line}
 
@@ -94,12 +94,12 @@ escapes = refl
 bad_escape : scripts_of heading (codes "campl script 2\nb: \\q") ≡ Err (BadEscape 2)
 bad_escape = refl
 
-a_number : unescaped 0 (codes "\\u{41}\\n") ≡ Some (65 ∷ 10 ∷ [])
+a_number : unescaped (codes "\\u{41}\\n") ≡ Some (65 ∷ 10 ∷ [])
 a_number = refl
 
 -- the last line that there may be, and the one behind it
-a_last_line : judged_line One (λ name. true) 100000 [] ≡ Ok None
+a_last_line : judged_line One (λ name. Some 0) 100000 [] ≡ Ok None
 a_last_line = refl
 
-too_many_lines : judged_line One (λ name. true) 100001 [] ≡ Err (TooManyLines 100001)
+too_many_lines : judged_line One (λ name. Some 0) 100001 [] ≡ Err (TooManyLines 100001)
 too_many_lines = refl

@@ -2,4 +2,4 @@ pub mod Actions
 pub mod Examples
 pub mod Lines
 pub mod Numbers
-pub mod Skips
+pub mod Values

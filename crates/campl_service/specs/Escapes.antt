@@ -1,6 +1,6 @@
 -- Escapes in the texts of scripts of version 2. A character is its code: 92 is \, 110 n, 114 r, 116 t, 117 u, 123 {, 125 }.
-use Rattle.std.specs.Prelude.{ℕ, zero, suc, ◌+◌, ◌*◌, ◌==◌, ◌&&◌, Bool, nat_le, nat_lt, if◌then◌else◌, List, [], ◌∷◌, take, Option, Some, None, option_map, slice_index_or}
-use Rattle.std.specs.List.{fold, prefix_len}
+use Rattle.std.specs.Prelude.{ℕ, ◌+◌, ◌*◌, ◌==◌, ◌&&◌, Bool, nat_le, nat_lt, if◌then◌else◌, List, [], ◌∷◌, ◌++◌, length, Option, Some, None, option_map}
+use Rattle.std.specs.List.{fold}
 use Rattle.std.specs.Char.{digit_value}
 use lib.Utf8.{scalar}
 
@@ -27,37 +27,34 @@ hex_value digits = fold (λ n d. n * 16 + hex_digit d) 0 digits
 abbrev pub character_of : ℕ → Option ℕ
 character_of n = if scalar n then Some n else None
 
--- an escape: the character that it stands for, and how many characters it has behind its backslash
-abbrev pub Escape : Type 0
-Escape = ℕ × ℕ
+-- the character that one to six digits name
+abbrev pub character_named : List ℕ → Option ℕ
+character_named digits = if nat_le 1 (length digits) && nat_le (length digits) 6 then character_of (hex_value digits) else None
 
--- of this length
-abbrev pub long : ℕ → Option ℕ → Option Escape
-long n c = option_map (λ x. (x, n)) c
+-- a character before those of the rest, where there are both
+abbrev pub before : Option ℕ → Option (List ℕ) → Option (List ℕ)
+before None rest = None
+before (Some c) rest = option_map (λ cs. c ∷ cs) rest
 
--- `{`, n digits and `}`, where n is 1 to 6; `u` and the braces are three characters
-abbrev pub in_braces : ℕ → List ℕ → Option Escape
-in_braces n cs = if nat_le 1 n && nat_le n 6 && (slice_index_or cs n 0 == 125) then long (n + 3) (character_of (hex_value (take n cs))) else None
+-- The characters that a text stands for; None where a backslash begins no escape.
+abbrev mutual
+  pub unescaped : List ℕ → Option (List ℕ)
+  unescaped [] = Some []
+  unescaped (c ∷ cs) = if c == 92 then escaped cs else before (Some c) (unescaped cs)
 
-abbrev pub braced : List ℕ → Option Escape
-braced [] = None
-braced (c ∷ cs) = if c == 123 then in_braces (prefix_len is_hex_digit cs) cs else None
+  -- behind a backslash there is a letter, or u with a number in braces
+  pub escaped : List ℕ → Option (List ℕ)
+  escaped [] = None
+  escaped (c ∷ cs) = if c == 117 then braced cs else before (short_escape c) (unescaped cs)
 
--- the escape that stands behind a backslash: a letter, or `u` with a number in braces
-abbrev pub escape : List ℕ → Option Escape
-escape [] = None
-escape (c ∷ cs) = if c == 117 then braced cs else long 1 (short_escape c)
+  pub braced : List ℕ → Option (List ℕ)
+  braced [] = None
+  braced (c ∷ cs) = if c == 123 then numbered [] cs else None
 
--- the character that c spells, and how many of those behind c belong to it
-abbrev pub spelled : ℕ → List ℕ → Option Escape
-spelled c cs = if c == 92 then escape cs else Some (c, 0)
-
-abbrev pub and_more : Option Escape → (ℕ → Option (List ℕ)) → Option (List ℕ)
-and_more None more = None
-and_more (Some found) more = option_map (λ cs. found.0 ∷ cs) (more found.1)
-
--- the characters that a text stands for, with some characters still to skip; None where a backslash begins no escape
-abbrev pub unescaped : ℕ → List ℕ → Option (List ℕ)
-unescaped skip [] = Some []
-unescaped (suc n) (c ∷ cs) = unescaped n cs
-unescaped zero (c ∷ cs) = and_more (spelled c cs) (λ n. unescaped n cs)
+  -- behind these digits there are more, or the brace
+  pub numbered : List ℕ → List ℕ → Option (List ℕ)
+  numbered digits [] = None
+  numbered digits (c ∷ cs) =
+      if c == 125 then before (character_named digits) (unescaped cs)
+      else if is_hex_digit c then numbered (digits ++ c ∷ []) cs
+      else None

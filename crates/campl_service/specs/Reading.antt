@@ -1,7 +1,7 @@
 -- How a script is read. A character is its code: 10 is LF, 32 a space, 58 a colon.
-use Rattle.std.specs.Prelude.{◌≡◌, ◌≢◌, ℕ, suc, ◌+◌, ◌==◌, not, Bool, nat_le, nat_lt, if◌then◌else◌, List, [], ◌∷◌, length, take, drop, map, Option, Some, None, Result, Ok, Err, MatchResult, codes, nat_eq, Vec}
+use Rattle.std.specs.Prelude.{◌≡◌, ◌≢◌, ℕ, suc, ◌+◌, ◌<◌, ◌==◌, not, Bool, nat_le, nat_lt, if◌then◌else◌, List, [], ◌∷◌, length, take, drop, map, replicate, Option, Some, None, Result, Ok, Err, MatchResult, IfOk, IfSome, codes, nat_eq}
 use Rattle.std.specs.Cmp.Lexicographic.{pointwise}
-use Rattle.std.specs.List.{prefix_len, list_any}
+use Rattle.std.specs.List.{fold, prefix_len}
 use Rattle.std.specs.Str.Lines.{strip_carriage_return}
 use Rattle.campl_tree.specs.declared.service.ServiceName.{ServiceName}
 use Rattle.campl_service.specs.declared.limits.TheConstants.{LINES_MAX, LINE_MAX, VERSION_2_LINES_MAX, VERSION_2_LINE_MAX, TEXT_MAX}
@@ -10,7 +10,7 @@ use Rattle.campl_service.specs.declared.entry.Version.TheVariants.{One, Two}
 use Rattle.campl_service.specs.declared.entry.Entry.{Entry}
 use Rattle.campl_service.specs.declared.fault.ScriptFault.{ScriptFault}
 use Rattle.campl_service.specs.declared.fault.ScriptFault.TheVariants.{NoColon, UnknownChannel, LineTooLong, TooManyLines, BadEscape, OutOfMemory}
-use Rattle.campl_service.specs.Scripts.{Lines}
+use Rattle.campl_service.specs.Scripts.{Lines, put_behind}
 use Rattle.campl_service.specs.Escapes.{unescaped}
 
 -- ---- lines
@@ -41,9 +41,13 @@ most_characters Two = VERSION_2_LINE_MAX
 abbrev pub same_name : List ℕ → List ℕ → Bool
 same_name x y = pointwise nat_eq x y
 
--- a name of the heading
-abbrev pub is_known : List ServiceName → List ℕ → Bool
-is_known names name = list_any (λ s. same_name s.name name) names
+-- the place of a name in the heading, where it begins with the place n
+abbrev pub place_from : ℕ → List ServiceName → List ℕ → Option ℕ
+place_from n [] name = None
+place_from n (s ∷ ss) name = if same_name s.name name then Some n else place_from (suc n) ss name
+
+abbrev pub place_of : List ServiceName → List ℕ → Option ℕ
+place_of = place_from 0
 
 -- one leading space is dropped
 abbrev pub without_space : List ℕ → List ℕ
@@ -53,38 +57,39 @@ without_space (c ∷ cs) = if c == 32 then cs else c ∷ cs
 -- what a text stands for, where its escapes are good
 abbrev pub text_meant : Version → List ℕ → Option (List ℕ)
 text_meant One text = Some text
-text_meant Two text = unescaped 0 text
+text_meant Two text = unescaped text
 
 -- what a line says: a text for a channel, or nothing
 abbrev pub Said : Type 0
 Said = Result (Option Entry) ScriptFault
 
 -- the text after its escapes
-abbrev pub judged_text : ℕ → List ℕ → Option (List ℕ) → Said
-judged_text n name None = Err (BadEscape n)
-judged_text n name (Some text) = if nat_le (length text) TEXT_MAX then Ok (Some (record { name = name; text = text })) else Err (LineTooLong n)
+abbrev pub judged_text : ℕ → ℕ → Option (List ℕ) → Said
+judged_text n channel None = Err (BadEscape n)
+judged_text n channel (Some text) = if nat_le (length text) TEXT_MAX then Ok (Some (record { channel = channel; text = text })) else Err (LineTooLong n)
 
--- a name before the colon, and what stands behind it
-abbrev pub judged_name : Version → (List ℕ → Bool) → ℕ → List ℕ → List ℕ → Said
-judged_name v known n name text = if known name then judged_text n name (text_meant v (without_space text)) else Err (UnknownChannel n)
+-- the channel whose name stands before the colon, and what stands behind it
+abbrev pub judged_channel : Version → ℕ → Option ℕ → List ℕ → Said
+judged_channel v n None text = Err (UnknownChannel n)
+judged_channel v n (Some channel) text = judged_text n channel (text_meant v (without_space text))
 
 -- how many characters stand before the first colon
 abbrev pub colon_at : List ℕ → ℕ
 colon_at line = prefix_len (λ c. not (c == 58)) line
 
 -- a line that isn't empty
-abbrev pub judged_content : Version → (List ℕ → Bool) → ℕ → List ℕ → Said
-judged_content v known n line =
-    if nat_lt (colon_at line) (length line) then judged_name v known n (take (colon_at line) line) (drop (colon_at line + 1) line)
+abbrev pub judged_content : Version → (List ℕ → Option ℕ) → ℕ → List ℕ → Said
+judged_content v place n line =
+    if nat_lt (colon_at line) (length line) then judged_channel v n (place (take (colon_at line) line)) (drop (colon_at line + 1) line)
     else Err (NoColon n)
 
 -- the line of number n, which is judged in this order: too many lines, too long, no colon, an unknown name, a bad escape, too long after escapes; an empty line says nothing
-abbrev pub judged_line : Version → (List ℕ → Bool) → ℕ → List ℕ → Said
-judged_line v known n line =
+abbrev pub judged_line : Version → (List ℕ → Option ℕ) → ℕ → List ℕ → Said
+judged_line v place n line =
     if nat_lt (most_lines v) n then Err (TooManyLines n)
     else if nat_lt (most_characters v) (length line) then Err (LineTooLong n)
     else if length line == 0 then Ok None
-    else judged_content v known n line
+    else judged_content v place n line
 
 -- ---- all lines
 
@@ -97,43 +102,43 @@ and_then (Ok said) (Ok more) = Ok (said ∷ more)
 and_then (Ok said) (Err fault) = Err fault
 
 -- what the lines from number n on say, or the first fault
-abbrev pub judged_lines : Version → (List ℕ → Bool) → ℕ → Lines → Sayings
-judged_lines v known n [] = Ok []
-judged_lines v known n (line ∷ more) = and_then (judged_line v known n line) (judged_lines v known (suc n) more)
+abbrev pub judged_lines : Version → (List ℕ → Option ℕ) → ℕ → Lines → Sayings
+judged_lines v place n [] = Ok []
+judged_lines v place n (line ∷ more) = and_then (judged_line v place n line) (judged_lines v place (suc n) more)
 
 -- the first line of a script of version 2
 abbrev pub is_version_line : List ℕ → Bool
 is_version_line line = pointwise nat_eq line (codes "campl script 2")
 
 -- the version line carries no text and is counted
-abbrev pub judged : (List ℕ → Bool) → Lines → Sayings
-judged known [] = Ok []
-judged known (line ∷ more) = if is_version_line line then judged_lines Two known 2 more else judged_lines One known 1 (line ∷ more)
+abbrev pub judged : (List ℕ → Option ℕ) → Lines → Sayings
+judged place [] = Ok []
+judged place (line ∷ more) = if is_version_line line then judged_lines Two place 2 more else judged_lines One place 1 (line ∷ more)
 
 -- ---- scripts
 
--- the texts for a channel, in order
-abbrev pub texts_for : List ℕ → List (Option Entry) → Lines
-texts_for name [] = []
-texts_for name (None ∷ more) = texts_for name more
-texts_for name (Some said ∷ more) = if same_name said.name name then said.text ∷ texts_for name more else texts_for name more
+-- a text is put behind the others of its channel
+abbrev pub with_line : List Lines → Option Entry → List Lines
+with_line scripts None = scripts
+with_line scripts (Some said) = put_behind said.channel said.text scripts
 
--- a script for each channel
-abbrev pub scripts_for : List ServiceName → List (Option Entry) → List Lines
-scripts_for names said = map (λ s. texts_for s.name said) names
+-- the texts of all lines, in order
+abbrev pub with_lines : List Lines → Sayings → Result (List Lines) ScriptFault
+with_lines scripts (Ok said) = Ok (fold with_line scripts said)
+with_lines scripts (Err fault) = Err fault
 
-abbrev pub scripts_said : List ServiceName → Sayings → Result (List Lines) ScriptFault
-scripts_said names (Ok said) = Ok (scripts_for names said)
-scripts_said names (Err fault) = Err fault
-
--- the scripts of a text, or its first fault
+-- the scripts of a text, one for each channel, or its first fault
 abbrev pub scripts_of : List ServiceName → (characters : List ℕ) → Result (List Lines) ScriptFault
-scripts_of names characters = scripts_said names (judged (is_known names) (lines_of characters))
+scripts_of names characters = with_lines (replicate (length names) []) (judged (place_of names) (lines_of characters))
 
 -- what is wanted is answered; want of memory alone comes freely
 abbrev pub Answers : {A : Type 0} → Result A ScriptFault → Result A ScriptFault → Type 0
 Answers wanted result = MatchResult result (λ x. wanted ≡ Ok x) (λ fault. fault ≢ OutOfMemory → wanted ≡ Err fault)
 
--- the same of a list that a vector holds
-abbrev pub AnswersAll : {Z : Type 0} → Sayings → Result (Vec (Option Entry) Z) ScriptFault → Type 0
-AnswersAll wanted result = MatchResult result (λ said. wanted ≡ Ok said.items) (λ fault. fault ≢ OutOfMemory → wanted ≡ Err fault)
+-- the same where what is wanted is put into what was there
+abbrev pub Leaves : {A : Type 0} → Result A ScriptFault → Result (Unit {0}) ScriptFault → (after : A) → Type 0
+Leaves wanted result after = MatchResult result (λ _. wanted ≡ Ok after) (λ fault. fault ≢ OutOfMemory → wanted ≡ Err fault)
+
+-- a channel of these names, if a line says something
+abbrev pub IsOfHeading : List ServiceName → Result (Option Entry) ScriptFault → Type 0
+IsOfHeading names result = IfOk result (λ said. IfSome said (λ entry. entry.channel < length names))

@@ -1,6 +1,5 @@
 -- Transcripts: what services write down.
-use Rattle.std.specs.Prelude.{ℕ, List, [], unwrap_or}
-use Rattle.campl_value.specs.Text.{chars_of}
+use Rattle.std.specs.Prelude.{ℕ, List}
 use Rattle.campl_service.specs.declared.record.Noted.{Noted}
 use Rattle.campl_service.specs.declared.record.Noted.TheVariants as n
 
@@ -15,8 +14,8 @@ pub data Record : Type 0 where
 abbrev pub Records : Type 0
 Records = List Record
 
--- what is noted: a text is held as its value
+-- what is noted
 abbrev pub record_of : Noted → Record
-record_of (n.Took text) = Took (unwrap_or (chars_of text) [])
+record_of (n.Took text) = Took text
 record_of (n.Sent line) = Sent line
 record_of n.Closed = Closed

@@ -1,5 +1,5 @@
 //! Where lines end, where names end, and digits.
-ghost use Rattle.std.specs.Prelude.{◌≡◌, ◌<◌, ◌≤◌, ◌∷◌, ◌==◌, not, length, if◌then◌else◌, Some, None, slice_index_or};
+ghost use Rattle.std.specs.Prelude.{◌≡◌, ◌<◌, ◌≤◌, ◌∷◌, ◌==◌, not, length};
 ghost use Rattle.std.specs.List.{prefix_len};
 ghost use Rattle.std.specs.Str.Lines.{strip_carriage_return};
 ghost use Rattle.campl_service.specs.Escapes.{is_hex_digit, hex_digit, hex_value, character_of};
@@ -42,37 +42,14 @@ pub fn strip_return(line: &[char]) -> &[char]
     }
 }
 
-// The character at an index, U+0000 past the end.
-pub fn peek(text: &[char], index: usize) -> char
-    ensures { result ≡ slice_index_or text.now index 0 }
-{
-    match text.get(index) {
-        Some(letter) => *letter,
-        None => '\0',
-    }
-}
-
-fn is_hex_digit(letter: char) -> bool
+pub fn is_hex_digit(letter: char) -> bool
     ensures { result ≡ is_hex_digit letter }
 {
     letter.is_digit(16)
 }
 
-// How many hexadecimal digits stand at the front.
-pub fn hex_len(text: &[char]) -> usize
-    ensures value { result ≡ prefix_len is_hex_digit text.now }
-    ensures within { result ≤ length text.now }
-{
-    for (i, letter) in text.iter().enumerate() {
-        if !is_hex_digit(*letter) {
-            return i;
-        }
-    }
-    text.len()
-}
-
 // The character that hexadecimal digits name, if they name one.
-pub fn character_named(digits: &[char]) -> Option<char>
+pub fn character_of(digits: &[char]) -> Option<char>
     ensures { result ≡ character_of (hex_value digits.now) }
 {
     let mut value: u32 = 0;

@@ -1,13 +1,13 @@
 //! What a line of a script says.
-ghost use Rattle.std.specs.Prelude.{◌≡◌, ◌<◌, ◌≤◌, nat_lt, Some, IfOk, OnOk, length, option_map};
-ghost use Rattle.campl_service.specs.Reading.{Answers, is_known, judged_line, judged_content, judged_name, judged_text, most_lines, most_characters, without_space, text_meant};
+ghost use Rattle.std.specs.Prelude.{◌≡◌, ◌<◌, ◌≤◌, Some, IfOk, IfSome, OnOk, length, option_map};
+ghost use Rattle.campl_service.specs.Reading.{Answers, IsOfHeading, place_of, judged_line, judged_content, judged_channel, judged_text, most_lines, most_characters, without_space, text_meant};
 
 use crate::characters::len_before;
 use crate::escapes::unescape;
 use crate::fault::ScriptFault;
 use crate::limits::{LINE_MAX, LINES_MAX, TEXT_MAX, VERSION_2_LINE_MAX, VERSION_2_LINES_MAX};
-use crate::line::Line;
-use campl_tree::{Name, ServiceName};
+use crate::text::TextValue;
+use campl_tree::ServiceName;
 use std::alloc::{AllocError, Global};
 
 // The version of a script.
@@ -37,11 +37,11 @@ impl Version {
     }
 }
 
-// A text for the channel of a name.
+// A text for a channel, by its place in the heading from 0.
 #[derive(Drop)]
 pub struct Entry {
-    pub name: Name,
-    pub text: Line,
+    pub channel: usize,
+    pub text: TextValue,
 }
 
 // What the line of this number says, which is nothing where it is empty.
@@ -52,7 +52,8 @@ pub fn read_line(
     number: u32,
     line: &[char],
 ) -> Result<Option<Entry>, ScriptFault>
-    ensures answer { Answers (judged_line version (is_known names.now) number line.now) result }
+    ensures answer { Answers (judged_line version (place_of names.now) number line.now) result }
+    ensures channel { IsOfHeading names.now result }
     ensures few { OnOk result (number ≤ most_lines version) }
 {
     if number > version.most_lines() {
@@ -75,47 +76,47 @@ fn read_content(
     number: u32,
     line: &[char],
 ) -> Result<Option<Entry>, ScriptFault>
-    ensures { Answers (judged_content version (is_known names.now) number line.now) result }
+    ensures answer { Answers (judged_content version (place_of names.now) number line.now) result }
+    ensures channel { IsOfHeading names.now result }
 {
     let colon = len_before(':', line);
-    if colon < line.len() {
-        read_named(
-            alloc,
-            version,
-            names,
-            number,
-            &line[..colon],
-            &line[colon + 1..],
-        )
-    } else {
-        Err(ScriptFault::NoColon { line: number })
+    if colon == line.len() {
+        return Err(ScriptFault::NoColon { line: number });
+    }
+    match place_of(names, &line[..colon]) {
+        Some(channel) => read_text(alloc, version, number, channel, &line[colon + 1..]),
+        None => Err(ScriptFault::UnknownChannel { line: number }),
     }
 }
 
-// A line's name and what stands behind the colon.
-fn read_named(
+// The place of a name in the heading.
+fn place_of(names: &[ServiceName], name: &[char]) -> Option<usize>
+    ensures value { result ≡ place_of names.now name.now }
+    ensures within { IfSome result (λ place. place < length names.now) }
+{
+    for (place, service) in names.iter().enumerate() {
+        if service.name.as_slice() == name {
+            return Some(place);
+        }
+    }
+    None
+}
+
+// What stands behind the colon, for this channel.
+fn read_text(
     alloc: Global,
     version: Version,
-    names: &[ServiceName],
     number: u32,
-    name: &[char],
+    channel: usize,
     text: &[char],
 ) -> Result<Option<Entry>, ScriptFault>
-    ensures { Answers (judged_name version (is_known names.now) number name.now text.now) result }
+    ensures answer { Answers (judged_channel version number (Some channel) text.now) result }
+    ensures channel { IfOk result (λ said. IfSome said (λ entry. entry.channel ≡ channel)) }
 {
-    if !is_known(names, name) {
-        return Err(ScriptFault::UnknownChannel { line: number });
-    }
     match text_meant(alloc, version, without_space(text))? {
-        Some(text) => kept_text(alloc, number, name, text.as_slice()),
+        Some(text) => kept_text(alloc, number, channel, text),
         None => Err(ScriptFault::BadEscape { line: number }),
     }
-}
-
-fn is_known(names: &[ServiceName], name: &[char]) -> bool
-    ensures { result ≡ is_known names.now name.now }
-{
-    names.iter().any(|service| service.name.as_slice() == name)
 }
 
 fn without_space(text: &[char]) -> &[char]
@@ -145,15 +146,15 @@ fn text_meant(
 fn kept_text(
     alloc: Global,
     number: u32,
-    name: &[char],
-    text: &[char],
+    channel: usize,
+    text: Vec<char>,
 ) -> Result<Option<Entry>, ScriptFault>
-    ensures { Answers (judged_text number name.now (Some text.now)) result }
+    ensures answer { Answers (judged_text number channel (Some text.items)) result }
+    ensures channel { IfOk result (λ said. IfSome said (λ entry. entry.channel ≡ channel)) }
 {
     if text.len() > TEXT_MAX {
         return Err(ScriptFault::LineTooLong { line: number });
     }
-    let name = Name::from_slice(alloc, name)?;
-    let text = Line::of(alloc, text)?;
-    Ok(Some(Entry { name, text }))
+    let text = TextValue::of(alloc, text)?;
+    Ok(Some(Entry { channel, text }))
 }

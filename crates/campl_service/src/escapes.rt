@@ -1,44 +1,45 @@
 //! Escapes in the texts of scripts of version 2.
-ghost use Rattle.std.specs.Prelude.{◌≡◌, ◌≤◌, ◌+◌, IfOk, IfSome, length, option_map};
-ghost use Rattle.campl_service.specs.Escapes.{short_escape, escape, braced, in_braces, spelled, unescaped};
+ghost use Rattle.std.specs.Prelude.{◌≡◌, [], ◌∷◌, IfOk, option_map};
+ghost use Rattle.campl_service.specs.Escapes.{short_escape, character_named, unescaped, escaped, braced, numbered};
+ghost use Rattle.campl_service.specs.Unescaping.{Begins, Shortens};
 
-use crate::characters::{character_named, hex_len, peek};
+use crate::characters::{character_of, is_hex_digit};
 use std::alloc::{AllocError, Global};
 
 // The characters that a text with escapes stands for, and `None` where a backslash begins no escape.
 pub fn unescape(alloc: Global, text: &[char]) -> Result<Option<Vec<char>>, AllocError>
-    ensures { IfOk result (λ found. option_map (λ read. read.items) found ≡ unescaped 0 text.now) }
+    ensures { IfOk result (λ found. option_map (λ read. read.items) found ≡ unescaped text.now) }
 {
     let mut read = Vec::new(alloc);
     let mut rest = text;
     'characters: loop {
-        let Some((first, behind)) = rest.split_first() else {
+        let [first, behind @ ..] = rest else {
             return Ok(Some(read));
         };
         let Some(found) = spelled(*first, behind) else {
             return Ok(None);
         };
         read.push(found.0)?;
-        rest = &behind[found.1..];
+        rest = found.1;
     }
 }
 
-// The character that the first one spells, with how many behind it.
-fn spelled(first: char, behind: &[char]) -> Option<(char, usize)>
-    ensures value { result ≡ spelled first behind.now }
-    ensures within { IfSome result (λ found. found.1 ≤ length behind.now) }
+// The character that the first one spells, with those behind it that belong to it, and the rest.
+fn spelled(first: char, behind: &[char]) -> Option<(char, &[char])>
+    ensures value { Begins (unescaped (first ∷ behind.now)) result }
+    ensures shorter { Shortens (first ∷ behind.now) result }
 {
     if first == '\\' {
         escape(behind)
     } else {
-        Some((first, 0))
+        Some((first, behind))
     }
 }
 
-// The character of the escape behind a backslash, and how many characters the escape has.
-fn escape(text: &[char]) -> Option<(char, usize)>
-    ensures value { result ≡ escape text.now }
-    ensures within { IfSome result (λ found. found.1 ≤ length text.now) }
+// The character of the escape behind a backslash, and the rest.
+fn escape(text: &[char]) -> Option<(char, &[char])>
+    ensures value { Begins (escaped text.now) result }
+    ensures shorter { Shortens text.now result }
 {
     let [first, rest @ ..] = text else {
         return None;
@@ -47,7 +48,7 @@ fn escape(text: &[char]) -> Option<(char, usize)>
         return braced(rest);
     }
     match short_escape(*first) {
-        Some(character) => Some((character, 1)),
+        Some(character) => Some((character, rest)),
         None => None,
     }
 }
@@ -65,31 +66,41 @@ fn short_escape(letter: char) -> Option<char>
 }
 
 // The same of `u`, behind which digits stand in braces.
-fn braced(text: &[char]) -> Option<(char, usize)>
-    ensures value { result ≡ braced text.now }
-    ensures within { IfSome result (λ found. found.1 ≤ length text.now + 1) }
+fn braced(text: &[char]) -> Option<(char, &[char])>
+    ensures value { Begins (braced text.now) result }
+    ensures shorter { Shortens text.now result }
 {
     let [first, rest @ ..] = text else {
         return None;
     };
-    if *first == '{' {
-        in_braces(hex_len(rest), rest)
-    } else {
-        None
-    }
+    if *first == '{' { numbered(rest) } else { None }
 }
 
-// So many digits stand behind the brace.
-fn in_braces(digits: usize, text: &[char]) -> Option<(char, usize)>
-    requires { digits ≤ length text.now }
-    ensures value { result ≡ in_braces digits text.now }
-    ensures within { IfSome result (λ found. found.1 ≤ length text.now + 2) }
+// The same behind the brace.
+fn numbered(text: &[char]) -> Option<(char, &[char])>
+    ensures value { Begins (numbered [] text.now) result }
+    ensures shorter { Shortens text.now result }
 {
-    if digits == 0 || digits > 6 || peek(text, digits) != '}' {
+    for (i, letter) in text.iter().enumerate() {
+        if *letter == '}' {
+            return match character_named(&text[..i]) {
+                Some(character) => Some((character, &text[i + 1..])),
+                None => None,
+            };
+        }
+        if !is_hex_digit(*letter) {
+            return None;
+        }
+    }
+    None
+}
+
+// The character that one to six digits name.
+fn character_named(digits: &[char]) -> Option<char>
+    ensures { result ≡ character_named digits.now }
+{
+    if digits.is_empty() || digits.len() > 6 {
         return None;
     }
-    match character_named(&text[..digits]) {
-        Some(character) => Some((character, digits + 3)),
-        None => None,
-    }
+    character_of(digits)
 }

@@ -1,8 +1,8 @@
 //! Services, which stand at the far ends of `run`'s channels, and the scripts that they send.
 //!
 //! A service takes constructors and texts and sends the lines of its script, one action at a time (`service`, `phase`). It
-//! writes each text, each line and its end down in a transcript, whose lines are printed with escapes (`transcript`, `record`,
-//! `shown`). What it has still to send is a list of lines (`script`, `line`). Scripts of both versions are read out of a text
+//! writes each text, each line and its end down in a transcript, whose lines are printed with escapes (`transcript`, `record`).
+//! What it has still to send is a list of lines (`script`), each of which is a value already (`text`). Scripts of both versions are read out of a text
 //! (`reading`) line by line (`entry`), with their escapes (`escapes`, `characters`), limits (`limits`) and faults (`fault`).
 //! What holds of every action stands in `laws`.
 //!
@@ -21,13 +21,12 @@ mod escapes;
 mod fault;
 mod laws;
 mod limits;
-mod line;
 mod phase;
 mod reading;
 mod record;
 mod script;
 mod service;
-mod shown;
+mod text;
 mod transcript;
 
 pub use fault::ScriptFault;

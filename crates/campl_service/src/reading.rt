@@ -1,13 +1,13 @@
 //! Scripts out of texts.
-ghost use Rattle.std.specs.Prelude.{◌≡◌, ◌≤◌, [], ◌∷◌, ◌++◌, IfOk, OnOk, chars, length};
-ghost use Rattle.campl_service.specs.Reading.{Answers, AnswersAll, is_known, is_version_line, judged, judged_lines, lines_of, texts_for, scripts_for, scripts_of};
+ghost use Rattle.std.specs.Prelude.{◌≡◌, ◌≤◌, IfOk, OnOk, IfSome, ◌<◌, chars, length};
+ghost use Rattle.campl_service.specs.Reading.{Answers, Leaves, place_of, is_version_line, judged, judged_lines, lines_of, scripts_of, with_line, with_lines};
 
 use crate::characters::{split_line, strip_return};
 use crate::entry::{Entry, Version, read_line};
 use crate::fault::ScriptFault;
-use crate::script::{Script, Scripts};
+use crate::script::Scripts;
 use campl_text::Text;
-use campl_tree::{Name, ServiceName};
+use campl_tree::ServiceName;
 use std::alloc::{AllocError, Global};
 
 /// The line with which a script of version 2 begins.
@@ -16,7 +16,7 @@ const VERSION_LINE: [char; 14] = [
 ];
 
 /// The script of each of these channels, in their order, or the first fault of the text. Time is linear in the text, and in the
-/// lines for each channel.
+/// names for each line.
 pub fn read_script(
     alloc: Global,
     text: &Text,
@@ -25,8 +25,11 @@ pub fn read_script(
     ensures { Answers (scripts_of names.now (chars text.now)) result }
 {
     let characters = characters_of(alloc, text.as_str())?;
-    let entries = read_entries(alloc, names, characters.as_slice())?;
-    Ok(scripts_for(alloc, names, entries.as_slice())?)
+    let mut scripts = Scripts::empty(alloc, names.len())?;
+    match read_all(alloc, names, characters.as_slice(), &mut scripts) {
+        Ok(()) => Ok(scripts),
+        Err(fault) => Err(fault),
+    }
 }
 
 fn characters_of(alloc: Global, text: &str) -> Result<Vec<char>, AllocError>
@@ -35,22 +38,24 @@ fn characters_of(alloc: Global, text: &str) -> Result<Vec<char>, AllocError>
     text.chars().collect(alloc)
 }
 
-// What each line of a script says, but for a version line.
-fn read_entries(
+// Puts the text of each line behind those of its channel, but for a version line.
+fn read_all(
     alloc: Global,
     names: &[ServiceName],
     characters: &[char],
-) -> Result<Vec<Option<Entry>>, ScriptFault>
-    ensures { AnswersAll (judged (is_known names.now) (lines_of characters.now)) result }
+    scripts: &mut Scripts,
+) -> Result<(), ScriptFault>
+    requires { length scripts.old ≡ length names.now }
+    ensures { Leaves (with_lines scripts.old (judged (place_of names.now) (lines_of characters.now))) result scripts.new }
 {
     if characters.is_empty() {
-        return Ok(Vec::new(alloc));
+        return Ok(());
     }
     let (piece, behind) = split_line(characters);
     if is_version_line(strip_return(piece)) {
-        read_lines(alloc, Version::Two, names, 2, behind)
+        read_lines(alloc, Version::Two, names, 2, behind, scripts)
     } else {
-        read_lines(alloc, Version::One, names, 1, characters)
+        read_lines(alloc, Version::One, names, 1, characters, scripts)
     }
 }
 
@@ -60,77 +65,39 @@ fn is_version_line(line: &[char]) -> bool
     line == VERSION_LINE.as_slice()
 }
 
-// What each line says, from the one of this number on.
+// The same of the lines from the one of this number on.
 fn read_lines(
     alloc: Global,
     version: Version,
     names: &[ServiceName],
     first: u32,
     characters: &[char],
-) -> Result<Vec<Option<Entry>>, ScriptFault>
-    requires { first ≤ 2 }
-    ensures { AnswersAll (judged_lines version (is_known names.now) first (lines_of characters.now)) result }
+    scripts: &mut Scripts,
+) -> Result<(), ScriptFault>
+    requires few { first ≤ 2 }
+    requires all { length scripts.old ≡ length names.now }
+    ensures { Leaves (with_lines scripts.old (judged_lines version (place_of names.now) first (lines_of characters.now))) result scripts.new }
 {
-    let mut entries = Vec::new(alloc);
     let mut number = first;
     let mut rest = characters;
     'lines: while !rest.is_empty() {
         let (piece, behind) = split_line(rest);
         let said = read_line(alloc, version, names, number, strip_return(piece))?;
-        push(&mut entries, said)?;
+        put(scripts, said)?;
         number += 1;
         rest = behind;
     }
-    Ok(entries)
+    Ok(())
 }
 
-fn push(entries: &mut Vec<Option<Entry>>, said: Option<Entry>) -> Result<(), AllocError>
-    ensures { OnOk result (entries.new.items ≡ entries.old.items ++ said ∷ []) }
-{
-    match entries.push(said) {
-        Ok(()) => Ok(()),
-        Err(_) => Err(AllocError),
-    }
-}
-
-fn scripts_for(
-    alloc: Global,
-    names: &[ServiceName],
-    entries: &[Option<Entry>],
-) -> Result<Scripts, AllocError>
-    ensures { IfOk result (λ scripts. scripts ≡ scripts_for names.now entries.now) }
-{
-    let mut scripts = Scripts::none(alloc, 0)?;
-    for service in names {
-        scripts.push(script_for(alloc, &service.name, entries)?)?;
-    }
-    Ok(scripts)
-}
-
-// The texts for this channel, in order.
-fn script_for(alloc: Global, name: &Name, entries: &[Option<Entry>]) -> Result<Script, AllocError>
-    ensures { IfOk result (λ script. script ≡ texts_for name.now entries.now) }
-{
-    let mut script = Script::empty(alloc);
-    for said in entries {
-        push_text(alloc, &mut script, name, said)?;
-    }
-    Ok(script)
-}
-
-// Puts the text behind the others where it is for this channel.
-fn push_text(
-    alloc: Global,
-    script: &mut Script,
-    name: &Name,
-    said: &Option<Entry>,
-) -> Result<(), AllocError>
-    ensures { OnOk result (script.new ≡ script.old ++ texts_for name.now (said.now ∷ [])) }
+// Puts what a line says behind what its channel has.
+fn put(scripts: &mut Scripts, said: Option<Entry>) -> Result<(), AllocError>
+    requires { IfSome said (λ entry. entry.channel < length scripts.old) }
+    ensures put { OnOk result (scripts.new ≡ with_line scripts.old said) }
+    ensures all { length scripts.new ≡ length scripts.old }
 {
     match said {
-        Some(entry) if entry.name.as_slice() == name.as_slice() => {
-            script.push(entry.text.copy(alloc)?)
-        }
-        _ => Ok(()),
+        Some(entry) => scripts.push_line(entry.channel, entry.text),
+        None => Ok(()),
     }
 }

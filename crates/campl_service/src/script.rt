@@ -1,8 +1,8 @@
 //! Scripts: the lines that services have still to send.
 ghost use Rattle.std.specs.Prelude.{◌≡◌, ◌∷◌, ◌++◌, [], ◌<◌, ◌==◌, IfOk, OnOk, length, replicate, slice_index_or, slice_set};
-ghost use Rattle.campl_service.specs.Scripts.{IsFirst, TakesFirst};
+ghost use Rattle.campl_service.specs.Scripts.{IsFirst, TakesFirst, put_behind};
 
-use crate::line::Line;
+use crate::text::TextValue;
 use std::alloc::{AllocError, Global};
 use std::collections::VecDeque;
 use std::marker::Model;
@@ -11,7 +11,7 @@ use std::mem;
 /// The lines that a service has still to send, the next one first. Contracts see the list of them.
 #[derive(Drop)]
 pub struct Script {
-    lines: VecDeque<Line>,
+    lines: VecDeque<TextValue>,
 }
 
 impl Model for Script {
@@ -36,7 +36,7 @@ impl Script {
     }
 
     // Puts a line behind the others.
-    pub(crate) fn push(&mut self, line: Line) -> Result<(), AllocError>
+    pub(crate) fn push(&mut self, line: TextValue) -> Result<(), AllocError>
         ensures { OnOk result (self.new ≡ self.old ++ line ∷ []) }
     {
         match self.lines.push_back(line) {
@@ -46,14 +46,14 @@ impl Script {
     }
 
     // The next line, and `None` where the script is spent.
-    pub(crate) fn first(&self) -> Option<&Line>
+    pub(crate) fn first(&self) -> Option<&TextValue>
         ensures { IsFirst self.now result }
     {
         self.lines.front()
     }
 
     // Takes the next line off, and `None` where the script is spent.
-    pub(crate) fn take_first(&mut self) -> Option<Line>
+    pub(crate) fn take_first(&mut self) -> Option<TextValue>
         ensures { TakesFirst self.old result self.new }
     {
         self.lines.pop_front()
@@ -84,6 +84,13 @@ impl Scripts {
     pub fn none(alloc: Global, count: u32) -> Result<Scripts, AllocError>
         ensures { IfOk result (λ scripts. scripts ≡ replicate count []) }
     {
+        Scripts::empty(alloc, count as usize)
+    }
+
+    // The same of a number of names.
+    pub(crate) fn empty(alloc: Global, count: usize) -> Result<Scripts, AllocError>
+        ensures { IfOk result (λ scripts. scripts ≡ replicate count []) }
+    {
         let mut scripts = Vec::new(alloc);
         for _ in 0..count {
             scripts.push(Script::empty(alloc))?;
@@ -91,14 +98,13 @@ impl Scripts {
         Ok(Scripts { scripts, alloc })
     }
 
-    // Puts a script behind the others.
-    pub(crate) fn push(&mut self, script: Script) -> Result<(), AllocError>
-        ensures { OnOk result (self.new ≡ self.old ++ script ∷ []) }
+    // Puts a line behind the others of the script of this number, from 0.
+    pub(crate) fn push_line(&mut self, i: usize, line: TextValue) -> Result<(), AllocError>
+        requires { i < length self.old }
+        ensures put { OnOk result (self.new ≡ put_behind i line self.old) }
+        ensures all { length self.new ≡ length self.old }
     {
-        match self.scripts.push(script) {
-            Ok(()) => Ok(()),
-            Err(_) => Err(AllocError),
-        }
+        self.scripts[i].push(line)
     }
 
     /// How many scripts there are.

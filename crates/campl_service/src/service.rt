@@ -5,10 +5,10 @@ ghost use Rattle.campl_value.specs.declared.message.Message.TheVariants.{Word};
 ghost use Rattle.campl_service.specs.Services.{Suits, want, want_in, action, asked, took, sent, request, IsNext, lacks_word};
 ghost use Rattle.campl_service.specs.Transcripts.{record_of};
 
-use crate::line::Line;
 use crate::phase::{Phase, Request, ServiceKind, Want, request_of};
 use crate::record::Noted;
 use crate::script::Script;
+use crate::text::TextValue;
 use crate::transcript::Transcript;
 use campl_value::{Message, Value};
 use std::alloc::{AllocError, Global};
@@ -28,7 +28,6 @@ pub struct Service {
     places: LinkedList<Noted>,
     // The value of the script's next line.
     word: Option<Value>,
-    alloc: Global,
 }
 
 impl Model for Service {
@@ -60,7 +59,6 @@ impl Service {
             transcript: Transcript::new(alloc),
             places: LinkedList::new(alloc),
             word: None,
-            alloc,
         }
     }
 
@@ -101,7 +99,7 @@ impl Service {
         ensures room { 1 ≤ self.old.spare → IsOk result }
     {
         make_place(&self.transcript, &mut self.places)?;
-        make_word(self.alloc, self.phase, &self.script, &mut self.word)
+        make_word(self.phase, &self.script, &mut self.word)
     }
 
     /// Makes an action: it takes a constructor, or takes a text and writes it down, or writes the next line of its script down
@@ -170,7 +168,8 @@ impl Service {
         requires room { 1 ≤ self.old.spare }
         ensures { took self.old.serving (chars_of text) ≡ Some (self.new.serving, None) }
     {
-        self.transcript.note(&mut self.places, Noted::Took(text));
+        self.transcript
+            .note(&mut self.places, Noted::Took(TextValue::from_value(text)));
         self.phase = Phase::Pick;
     }
 
@@ -215,12 +214,7 @@ fn make_place(transcript: &Transcript, places: &mut LinkedList<Noted>) -> Result
 }
 
 // Makes the value of the line that is to be sent, if one is and it isn't there.
-fn make_word(
-    alloc: Global,
-    phase: Phase,
-    script: &Script,
-    word: &mut Option<Value>,
-) -> Result<(), AllocError>
+fn make_word(phase: Phase, script: &Script, word: &mut Option<Value>) -> Result<(), AllocError>
     requires { IsNext word.old script.now }
     ensures ok { OnOk result (lacks_word phase script.now word.new ≡ false) }
     ensures next { IsNext word.new script.now }
@@ -228,7 +222,7 @@ fn make_word(
     ensures room { lacks_word phase script.now word.old ≡ false → IsOk result }
 {
     if let (Phase::Send, None, Some(line)) = (phase, &*word, script.first()) {
-        *word = Some(line.value(alloc)?);
+        *word = Some(line.value()?);
     }
     Ok(())
 }

@@ -1,5 +1,5 @@
 //! What a service wrote down.
-ghost use Rattle.std.specs.Prelude.{◌≡◌, [], ◌∷◌, ◌++◌, ◌<◌, ◌^◌, ◌+◌, IfOk, OnOk, OnErr, length, map, string_bytes};
+ghost use Rattle.std.specs.Prelude.{◌≡◌, [], ◌∷◌, ◌++◌, ◌<◌, ◌^◌, ◌+◌, IfOk, OnOk, OnErr, length, map};
 ghost use Rattle.campl_service.specs.Transcripts.{record_of};
 ghost use Rattle.campl_service.specs.Output.{transcript_lines};
 
@@ -63,7 +63,7 @@ impl Transcript {
         ensures err { OnErr result (bytes.new.items ≡ bytes.old.items) }
     {
         let lines = lines_of(*bytes.allocator(), &self.records)?;
-        bytes.extend_from_slice(lines.as_str().as_bytes())
+        bytes.extend_from_slice(lines.as_slice())
     }
 
     /// An equal transcript. An error means that memory is out.
@@ -86,10 +86,10 @@ fn fill(places: &mut LinkedList<Noted>, noted: Noted)
 }
 
 // The lines that are printed.
-fn lines_of(alloc: Global, records: &LinkedList<Noted>) -> Result<String, AllocError>
-    ensures { IfOk result (λ lines. string_bytes lines ≡ transcript_lines (map record_of records.now)) }
+fn lines_of(alloc: Global, records: &LinkedList<Noted>) -> Result<Vec<u8>, AllocError>
+    ensures { IfOk result (λ lines. lines.items ≡ transcript_lines (map record_of records.now)) }
 {
-    let mut lines = String::new(alloc);
+    let mut lines = Vec::new(alloc);
     for noted in records {
         noted.push_line(alloc, &mut lines)?;
     }
@@ -97,11 +97,11 @@ fn lines_of(alloc: Global, records: &LinkedList<Noted>) -> Result<String, AllocE
 }
 
 fn copies(alloc: Global, records: &LinkedList<Noted>) -> Result<LinkedList<Noted>, AllocError>
-    ensures { IfOk result (λ copies. map record_of copies ≡ map record_of records.now) }
+    ensures { IfOk result (λ copies. copies ≡ records.now) }
 {
     let mut copies = LinkedList::new(alloc);
     for noted in records {
-        if copies.push_back(noted.copy(alloc)?).is_err() {
+        if copies.push_back(noted.copy()?).is_err() {
             return Err(AllocError);
         }
     }

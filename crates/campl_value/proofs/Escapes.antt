@@ -1,7 +1,7 @@
 -- Shown texts, byte by byte.
 use Rattle.std.proofs.Common.{◌≡◌, refl, sym, ap, ap₂, subst, ◌∙◌, ℕ, suc, ◌+◌, ◌/◌, ◌%◌, ◌<◌, ◌≤◌, Bool, true, false, List, [], ◌∷◌, ◌++◌, length, get_or, take, drop, arith, append_assoc, drop-cons, cond}
-use Rattle.std.specs.Prelude.{flat_map, encode_utf8, encode_utf8_all, chars, codes, if◌then◌else◌, not, nat_lt}
-use Rattle.std.specs.List.{prefix_len}
+use Rattle.std.specs.Prelude.{flat_map, encode_utf8, encode_utf8_all, chars, codes, if◌then◌else◌, not, ◌&&◌, nat_lt}
+use Rattle.std.specs.List.{list_all, prefix_len}
 use Rattle.std.specs.Str.{IsUtf8, IsAscii}
 use Rattle.std.specs.Fmt.{digits, digit_glyph}
 use Rattle.std.proofs.lemmas.Fmt.{hex_one_digit, hex_two_digits}
@@ -68,6 +68,15 @@ shown_bytes_of bs h = ap (flat_map shown_byte) (sym (encodes-chars bs h)) ∙ al
 -- a byte that stands as it is
 abbrev pub stays : ℕ → Bool
 stays b = not (has_escape b)
+
+-- where each byte stays, all are shown as they are
+pub all_stay : (bs : List ℕ) → list_all stays bs ≡ true → flat_map shown_byte bs ≡ bs
+all_stay [] h = refl
+all_stay (b ∷ bs) h = by_test (has_escape b) refl (all_stay bs) h
+  where
+    by_test : (t : Bool) → has_escape b ≡ t → (list_all stays bs ≡ true → flat_map shown_byte bs ≡ bs) → not t && list_all stays bs ≡ true → flat_map shown_byte (b ∷ bs) ≡ b ∷ bs
+    by_test true e behind k = cc k
+    by_test false e behind k = rw e (ap (λ rest. b ∷ rest) (behind k))
 
 plain_first : (bs : List ℕ) → flat_map shown_byte bs ≡ take (prefix_len stays bs) bs ++ flat_map shown_byte (drop (prefix_len stays bs) bs)
 plain_first [] = refl

@@ -1,6 +1,6 @@
 // Texts as they are shown, with escapes.
 ghost use Rattle.std.specs.Prelude.{◌≡◌, ◌≤◌, ◌++◌, IsTrue, true, false, not, codes, chars, encode_utf8_all, flat_map, length, OnOk};
-ghost use Rattle.std.specs.List.{prefix_len};
+ghost use Rattle.std.specs.List.{list_all, prefix_len};
 ghost use Rattle.std.specs.Fmt.{digits};
 ghost use Rattle.campl_value.specs.Shown.{has_escape, escape_of, shown_byte, shown_bytes};
 
@@ -15,7 +15,20 @@ pub fn push_shown(output: &mut Vec<u8>, text: &str) -> Result<(), AllocError>
     push_bytes(output, text.as_bytes())
 }
 
+#[tactic(auto, using(crate::proofs::Escapes::all_stay))]
 fn push_bytes(output: &mut Vec<u8>, text: &[u8]) -> Result<(), AllocError>
+    ensures { OnOk result (output.new.items ≡ output.old.items ++ flat_map shown_byte text.now) }
+{
+    if is_plain(text) {
+        output.extend_from_slice(text)?;
+        Ok(())
+    } else {
+        push_pieces(output, text)
+    }
+}
+
+// The same of a text with escapes.
+fn push_pieces(output: &mut Vec<u8>, text: &[u8]) -> Result<(), AllocError>
     ensures { OnOk result (output.new.items ≡ output.old.items ++ flat_map shown_byte text.now) }
 {
     let mut rest = text;
@@ -28,6 +41,17 @@ fn push_bytes(output: &mut Vec<u8>, text: &[u8]) -> Result<(), AllocError>
         push_escape(output, rest[plain])?;
         rest = &rest[plain + 1..];
     }
+}
+
+// Whether no byte has an escape. It looks at all, so that it may look at many at once.
+fn is_plain(text: &[u8]) -> bool
+    ensures { result ≡ list_all (λ b. not (has_escape b)) text.now }
+{
+    let mut plain = true;
+    for byte in text {
+        plain &= !has_escape(*byte);
+    }
+    plain
 }
 
 // How many bytes stand before the first one that has an escape, or all.

@@ -1,12 +1,12 @@
 //! Reads files of cases, and prints for each case how far its source is accepted, or its first fault.
 //!
-//! The words are pairs of a phase and a file. `grammar FILE` prints `tree` where a source has a tree, and `names FILE` prints `well
-//! declared` where its names are so too. Each case begins with a line `== NAME` and its source goes to the next such line; the last
+//! The words are pairs of a phase and a file. `grammar FILE` prints `tree` where a source has a tree, `names FILE` prints `well
+//! declared` where its names are so too, and `functions FILE` prints `typed` where its functions are. Each case begins with a line `== NAME` and its source goes to the next such line; the last
 //! line feed before that line, or before the end, belongs to no source. `tests/` makes the files and the answers.
 #![tactic(auto)]
 
 use anyhow::{Context, Result, bail};
-use campl_cli::{Refusal, SOURCE_LIMIT, judge_names, tree_of};
+use campl_cli::{Refusal, SOURCE_LIMIT, judge, judge_names, tree_of};
 use campl_text::{FileShelf, Text, read_text};
 use std::alloc::Global;
 use std::env;
@@ -18,13 +18,15 @@ use std::rt::{Env, Files};
 enum Phase {
     Grammar,
     Names,
+    Functions,
 }
 
 fn phase_of(word: &str) -> Result<Phase> {
     match word {
         "grammar" => Ok(Phase::Grammar),
         "names" => Ok(Phase::Names),
-        _ => bail!("the phases are grammar and names"),
+        "functions" => Ok(Phase::Functions),
+        _ => bail!("the phases are grammar, names and functions"),
     }
 }
 
@@ -46,13 +48,21 @@ fn source_of(alloc: Global, case: &str) -> Result<Text> {
 }
 
 // What is said of an accepted source, or why it is refused.
-fn judge(alloc: Global, phase: Phase, source: &Text) -> std::result::Result<&'static str, Refusal> {
+fn judge_source(
+    alloc: Global,
+    phase: Phase,
+    source: &Text,
+) -> std::result::Result<&'static str, Refusal> {
     let program = tree_of(alloc, source)?;
     match phase {
         Phase::Grammar => Ok("tree"),
         Phase::Names => {
             judge_names(alloc, program)?;
             Ok("well declared")
+        }
+        Phase::Functions => {
+            judge(alloc, program)?;
+            Ok("typed")
         }
     }
 }
@@ -65,7 +75,7 @@ fn print_answers(alloc: Global, phase: Phase, text: &Text, out: &mut impl Write)
         .context("the last line has no end")?;
     for case in content.split("\n== ") {
         let (name, source) = case.split_once('\n').context("a case has no source")?;
-        match judge(alloc, phase, &source_of(alloc, source)?) {
+        match judge_source(alloc, phase, &source_of(alloc, source)?) {
             Ok(accepted) => writeln!(out, "{name}: {accepted}")?,
             Err(refusal) => writeln!(out, "{name}: {refusal}")?,
         }

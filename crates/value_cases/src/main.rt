@@ -24,7 +24,7 @@ const FILE_LIMIT: u64 = 1_048_576;
 
 // The text of a file.
 fn text_of(rt: &impl Files, alloc: Global, file: &str) -> Result<Text> {
-    let mut shelf = FileShelf::new(rt);
+    let mut shelf = FileShelf::new(rt, alloc);
     match read_text(alloc, &mut shelf, file, FILE_LIMIT) {
         Ok(text) => Ok(text),
         Err(_) => bail!("the file is no text within the limit"),

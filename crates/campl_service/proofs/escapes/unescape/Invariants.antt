@@ -4,7 +4,7 @@ use Rattle.campl_service.proofs.escapes.unescape.Given as goal
 
 -- the characters so far and those of what is left make all
 abbrev pub invariant-characters : goal.invariant-characters
-invariant-characters l = option_map (λ more. l.read.items ++ more) (unescaped 0 l.rest) ≡ unescaped 0 l.text
+invariant-characters l = option_map (λ more. l.read.items ++ more) (unescaped l.rest) ≡ unescaped l.text
 
 abbrev pub decreases-characters : goal.decreases-characters
 decreases-characters l = length l.rest

@@ -1,0 +1,63 @@
+//! Whether the functions of a program are typed.
+ghost use Rattle.std.specs.Prelude.{◌≡◌, MatchResult, map};
+ghost use Rattle.campl_tree.specs.View.{view_decl, view_program};
+ghost use Rattle.campl_types.specs.WellDeclared.{IsWellDeclared};
+ghost use Rattle.campl_types.specs.World.{world_of};
+ghost use Rattle.campl_types.specs.Sequential.{FunctionsAreTyped};
+ghost use Rattle.campl_tree.specs.Plain.Decl.{Program as Seen};
+ghost use Rattle.campl_cli.specs.Source.{IsJudged, IsRefusedForFunctions, IsRefusedJudged, refusal_of_typing};
+
+use crate::fault::FaultKind;
+use crate::names::judge_names;
+use crate::refusal::Refusal;
+use campl_names::World;
+use campl_seqcheck::{SeqFault, check_functions};
+use campl_tree::Program;
+use std::alloc::Global;
+
+/// Judges a program: its names, and then its functions.
+pub fn judge(alloc: Global, program: Program) -> Result<(), Refusal>
+    ensures { MatchResult result (λ _. IsJudged (view_program program)) (IsRefusedJudged (view_program program)) }
+{
+    match judge_names(alloc, program) {
+        Ok(world) => judge_functions(alloc, &world),
+        Err(refusal) => Err(refusal),
+    }
+}
+
+/// Judges the functions of the world of a well declared program.
+pub fn judge_functions(alloc: Global, world: &World) -> Result<(), Refusal>
+    ensures { (program : Seen) → IsWellDeclared program → map view_decl world.now ≡ world_of program
+        → MatchResult result (λ _. FunctionsAreTyped (world_of program) program) (IsRefusedForFunctions program) }
+{
+    match check_functions(alloc, world, world.declarations()) {
+        Ok(()) => Ok(()),
+        Err(fault) => Err(refusal_of(fault)),
+    }
+}
+
+// The refusal for a fault of functions.
+fn refusal_of(fault: SeqFault) -> Refusal
+    ensures { result ≡ refusal_of_typing fault }
+{
+    match fault {
+        SeqFault::TypeDiffers {
+            place,
+            found,
+            wanted,
+        } => Refusal::of_types(FaultKind::TypeDiffers, place, found, wanted),
+        SeqFault::NeedsType { place } => Refusal::at(FaultKind::NeedsType, place),
+        SeqFault::NotExhaustive { place, missing } => {
+            Refusal::of_patterns(FaultKind::NotExhaustive, place, missing)
+        }
+        SeqFault::ArgumentCount {
+            place,
+            found,
+            wanted,
+        } => Refusal::of_numbers(FaultKind::ArgumentCount, place, found, wanted),
+        SeqFault::NameTwiceInPattern { place, name } => {
+            Refusal::of_name(FaultKind::NameTwiceInPattern, place, name)
+        }
+        SeqFault::OutOfMemory => Refusal::OutOfMemory,
+    }
+}
