@@ -19,11 +19,10 @@ use Rattle.campl_types.specs.Linear.{bound, body_rows, AreHanded, IsWellFormed, 
 use Rattle.campl_types.specs.Free.{is_free}
 use Rattle.campl_seqcheck.specs.Judged.{Fine, Is, and_then}
 use Rattle.campl_seqcheck.specs.Fitting.{fit, counted}
-use Rattle.campl_seqcheck.specs.Judging.{exhaustive, count_of}
+use Rattle.campl_seqcheck.specs.Judging.{count_of}
 use Rattle.campl_seqcheck.specs.Judging as values
 use Rattle.campl_seqcheck.proofs.AgreesJudged.{counts}
 use Rattle.campl_seqcheck.proofs.AgreesFit.{fit-fits}
-use Rattle.campl_seqcheck.proofs.AgreesWanted.{exhaustive-is}
 use Rattle.campl_seqcheck.proofs.AgreesSound.{alone-is, at-wanted, judge-typed}
 use Rattle.campl_linear.specs.Judged.{from_seq}
 use Rattle.campl_linear.specs.Holding.{Holding, as_held, goes_on, those, given_up, comes}
@@ -44,6 +43,8 @@ use Rattle.campl_linear.proofs.Headers.{LinksAreNew}
 use Rattle.campl_linear.proofs.Plugged.{plug-so, stands-new, shares}
 use Rattle.campl_types.proofs.Among.{distinct-append}
 use Rattle.campl_types.specs.Values.{PartsAreKnown}
+use Rattle.campl_seqcheck.specs.RowPatterns.{exhaustive}
+use Rattle.campl_seqcheck.proofs.AgreesRows.{exhaustive-is}
 
 -- what is held behind two new names
 pub two-held : (x y z : Name) (c d : Channel) (held : Holding) → TwoNew y z (given_up x held)

@@ -12,7 +12,6 @@ use Rattle.campl_types.specs.Linear.{bound, body_rows}
 use Rattle.campl_types.specs.Free.{is_free}
 use Rattle.campl_seqcheck.specs.Judged.{Fine, fine, Judged, Is, and_then}
 use Rattle.campl_seqcheck.specs.Fitting.{fit}
-use Rattle.campl_seqcheck.specs.Judging.{exhaustive}
 use Rattle.campl_seqcheck.specs.Judging as values
 use Rattle.campl_linear.specs.Judged.{from_seq}
 use Rattle.campl_linear.specs.Holding.{Holding, goes_on, those, given_up, comes}
@@ -21,6 +20,7 @@ use Rattle.campl_linear.specs.Rows.{row_names, row_type, rows_offered, each_has_
 use Rattle.campl_linear.specs.Plugs.{plug_stands, share_of}
 use Rattle.campl_linear.specs.Calls.{called}
 use Rattle.campl_linear.specs.Faults.{LinFault}
+use Rattle.campl_seqcheck.specs.RowPatterns.{exhaustive}
 
 abbrev mutual
   pub judge : World → Vars → Holding → Body → Judged LinFault Fine
