@@ -7,9 +7,9 @@ use Rattle.std.proofs.lemmas.Str.{chars_from_encodes, chars-append, IsUtf8-encod
 use Rattle.std.proofs.lemmas.List.{append-nil}
 use Rattle.std.proofs.Math.Seq.{drop-cons}
 use Rattle.std.specs.Fmt.{decimal}
-use Rattle.campl_meaning.specs.States.{Took, WasClosed}
-use Rattle.campl_meaning.specs.Ends.{Finished}
-use Rattle.campl_meaning.specs.Output.{output_of, record_line, end_of_line}
+use Rattle.campl_first_path.specs.States.{Took, WasClosed}
+use Rattle.campl_first_path.specs.Ends.{Finished}
+use Rattle.campl_first_path.specs.Output.{output_of, record_line, end_of_line}
 
 -- three parts, one after another
 pub three_parts : {A : Type 0} (o p q r a b c : List A) → p ≡ o ++ a → q ≡ p ++ b → r ≡ q ++ c → r ≡ o ++ (a ++ (b ++ c))

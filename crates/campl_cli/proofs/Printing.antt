@@ -9,14 +9,14 @@ use Rattle.campl_value.specs.Tree.{Tree, depth_of}
 use Rattle.campl_value.specs.Text.{text_of, chars_of_text}
 use Rattle.campl_machine.specs.Names.{End, Who, Process, Service, same_end, same_who}
 use Rattle.campl_machine.specs.Machine.{update, both_ways, sent, taken, rest_of, moved, looked}
-use Rattle.campl_meaning.specs.Commands.{Name, same_name, Body, Then, Ends, Put, HPut, Halt, Text, Console, constructor_number}
+use Rattle.campl_first_path.specs.Commands.{Name, same_name, Body, Then, Ends, Put, HPut, Halt, Text, Console, constructor_number}
 use Rattle.campl_value.specs.declared.value.TheConstants.{MAX_DEPTH}
-use Rattle.campl_meaning.specs.States.{Message, Word, Pick, State, Runs, Serves, Serving, Doing, Phase, AwaitsPick, AwaitsText, Closed, Transcript, Took, WasClosed}
-use Rattle.campl_meaning.specs.Reductions.{Configuration, Event, Reduces, reduce_state}
-use Rattle.campl_meaning.specs.Start.{near, far, start}
-use Rattle.campl_meaning.specs.Ends.{IsEnd, Finished, IsEnabled, HasNoProcess, transcript_of}
-use Rattle.campl_meaning.specs.Kinds as k
-use Rattle.campl_meaning.specs.Journals.{Entry, Naming, naming_at_start, IsRunOf, IsRunFromStart, Says, Times, steps_of}
+use Rattle.campl_first_path.specs.States.{Message, Word, Pick, State, Runs, Serves, Serving, Doing, Phase, AwaitsPick, AwaitsText, Closed, Transcript, Took, WasClosed}
+use Rattle.campl_first_path.specs.Reductions.{Configuration, Event, Reduces, reduce_state}
+use Rattle.campl_first_path.specs.Start.{near, far, start}
+use Rattle.campl_first_path.specs.Ends.{IsEnd, Finished, IsEnabled, HasNoProcess, transcript_of}
+use Rattle.campl_first_path.specs.Kinds as k
+use Rattle.campl_first_path.specs.Journals.{Entry, Naming, naming_at_start, IsRunOf, IsRunFromStart, Says, Times, steps_of}
 use Rattle.campl_cli.specs.Form.{Prints, IsShort, IsFine}
 use Rattle.campl_cli.proofs.Depths.{text_fits}
 use Rattle.campl_cli.specs.Printing.{printing, source_of, sends, takes, serves, journal_of, sent_pick, sent_word, took_pick, took_word, halted}

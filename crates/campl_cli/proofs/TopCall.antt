@@ -4,10 +4,10 @@ use Rattle.std.specs.Prelude.{All}
 use Rattle.std.specs.List.{fold}
 use Rattle.std.proofs.lemmas.List.{length-map}
 use Rattle.std.proofs.Math.ListN.{get_or-map}
-use Rattle.campl_meaning.specs.States.{Transcript}
-use Rattle.campl_meaning.specs.Ends as e
-use Rattle.campl_meaning.specs.Journals.{steps_of}
-use Rattle.campl_meaning.specs.Output.{output_of}
+use Rattle.campl_first_path.specs.States.{Transcript}
+use Rattle.campl_first_path.specs.Ends as e
+use Rattle.campl_first_path.specs.Journals.{steps_of}
+use Rattle.campl_first_path.specs.Output.{output_of}
 use Rattle.campl_config.specs.declared.entry.Entry.{Entry}
 use Rattle.campl_config.specs.Journal.{plain_entries, weight_of}
 use Rattle.campl_cli.specs.declared.performance.Performance.{Performance}

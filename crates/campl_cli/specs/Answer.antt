@@ -2,11 +2,11 @@
 use Rattle.std.specs.Prelude.{◌≡◌, ◌≢◌, ◌≤◌, ℕ, ◌⊎◌, List, [], ◌∷◌, ◌++◌, Option, Some, None}
 use Rattle.std.specs.Io.KnownBytes.{Appends}
 use Rattle.campl_text.specs.Counts.{Rose}
-use Rattle.campl_meaning.specs.Reductions.{Configuration}
-use Rattle.campl_meaning.specs.Ends.{IsEnd, transcript_of}
-use Rattle.campl_meaning.specs.Ends as e
-use Rattle.campl_meaning.specs.Journals.{IsRunFromStart}
-use Rattle.campl_meaning.specs.Output.{output_of}
+use Rattle.campl_first_path.specs.Reductions.{Configuration}
+use Rattle.campl_first_path.specs.Ends.{IsEnd, transcript_of}
+use Rattle.campl_first_path.specs.Ends as e
+use Rattle.campl_first_path.specs.Journals.{IsRunFromStart}
+use Rattle.campl_first_path.specs.Output.{output_of}
 use Rattle.campl_config.specs.Journal.{weight_of, plain_entries}
 use Rattle.campl_cli.specs.declared.refusal.Refusal.{Refusal}
 use Rattle.campl_cli.specs.declared.refusal.Refusal.TheVariants.{OutOfMemory}

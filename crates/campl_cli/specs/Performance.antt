@@ -1,8 +1,8 @@
 -- What a run did and prints, before any of it is written.
 use Rattle.std.specs.Prelude.{◌≡◌, ◌⊎◌, [], ◌∷◌, ◌++◌, Some, map}
-use Rattle.campl_meaning.specs.States.{Took, WasClosed}
-use Rattle.campl_meaning.specs.Ends as e
-use Rattle.campl_meaning.specs.Output.{output_of}
+use Rattle.campl_first_path.specs.States.{Took, WasClosed}
+use Rattle.campl_first_path.specs.Ends as e
+use Rattle.campl_first_path.specs.Output.{output_of}
 use Rattle.campl_config.specs.Journal.{weight_of, plain_entries}
 use Rattle.campl_cli.specs.declared.performance.Performance.{Performance}
 use Rattle.campl_cli.specs.declared.report.Report.{Report}

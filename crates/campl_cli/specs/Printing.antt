@@ -2,9 +2,9 @@
 use Rattle.std.specs.Prelude.{ℕ, List, [], ◌∷◌, ◌++◌, Option, Some, None, map, codes}
 use Rattle.campl_value.specs.Tree.{Tree}
 use Rattle.campl_value.specs.Text.{text_of}
-use Rattle.campl_meaning.specs.Commands.{Name, Source, Body, Then, Ends, Put, HPut, Halt, Text, Console}
-use Rattle.campl_meaning.specs.Kinds as k
-use Rattle.campl_meaning.specs.Journals.{Entry, Told, ToldWord, ToldPick}
+use Rattle.campl_first_path.specs.Commands.{Name, Source, Body, Then, Ends, Put, HPut, Halt, Text, Console}
+use Rattle.campl_first_path.specs.Kinds as k
+use Rattle.campl_first_path.specs.Journals.{Entry, Told, ToldWord, ToldPick}
 use Rattle.campl_cli.specs.Form.{Prints}
 
 -- the texts are put, and then the console is closed and the process halts

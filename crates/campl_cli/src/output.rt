@@ -1,9 +1,9 @@
 //! What a run prints.
 ghost use Rattle.std.specs.Prelude.{◌≡◌, ◌++◌, ◌∷◌, [], codes, IfOk, OnOk, map, chars, string_bytes, encode_utf8_all};
 ghost use Rattle.std.specs.Fmt.{decimal};
-ghost use Rattle.campl_meaning.specs.States.{Took, WasClosed};
-ghost use Rattle.campl_meaning.specs.Ends as end;
-ghost use Rattle.campl_meaning.specs.Output.{output_of, record_line, end_of_line};
+ghost use Rattle.campl_first_path.specs.States.{Took, WasClosed};
+ghost use Rattle.campl_first_path.specs.Ends as end;
+ghost use Rattle.campl_first_path.specs.Output.{output_of, record_line, end_of_line};
 
 use campl_tree::Name;
 use campl_value::push_shown;

@@ -1,9 +1,9 @@
--- An entry as the definitions of `campl_meaning` see it.
+-- An entry as the definitions of `campl_first_path` see it.
 use Rattle.std.specs.Prelude.{ℕ, Option, Some, None, option_map}
 use Rattle.campl_value.specs.declared.message.Message.{Message}
 use Rattle.campl_value.specs.declared.message.Message.TheVariants as m
-use Rattle.campl_meaning.specs.Kinds as k
-use Rattle.campl_meaning.specs.Journals as j
+use Rattle.campl_first_path.specs.Kinds as k
+use Rattle.campl_first_path.specs.Journals as j
 use Rattle.campl_config.specs.declared.entry.Kind.{Kind}
 use Rattle.campl_config.specs.declared.entry.Kind.TheVariants as v
 use Rattle.campl_config.specs.declared.entry.Entry.{Entry}

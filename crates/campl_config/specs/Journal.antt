@@ -1,6 +1,6 @@
 -- What contracts see of a journal.
 use Rattle.std.specs.Prelude.{ℕ, List, sum_by, map}
-use Rattle.campl_meaning.specs.Journals as j
+use Rattle.campl_first_path.specs.Journals as j
 use Rattle.campl_config.specs.declared.entry.Entry.{Entry}
 use Rattle.campl_config.specs.Entry.{plain_entry}
 

@@ -1,89 +1,108 @@
--- A process that prints "Hello" on its Console, computed from its start, and what no run does.
-use Rattle.std.proofs.Common.{◌≡◌, ℕ, List, [], ◌∷◌, ◌++◌, refl, Option, Some, None}
-use Rattle.std.specs.Prelude.{codes}
-use Rattle.campl_machine.specs.Names.{End, Who, Process, Service}
-use Rattle.campl_meaning.specs.Commands.{Source, Body, Then, Ends, Put, HPut, Halt, Text, Console, Name}
-use Rattle.campl_meaning.specs.States.{Took, WasClosed, Transcript}
-use Rattle.campl_meaning.specs.Reductions.{Configuration, Event, reduce}
-use Rattle.campl_meaning.specs.Start.{near, far, start}
-use Rattle.campl_meaning.specs.Ends.{transcript_of, Finished, HasProcess, IsBrokenAt}
-use Rattle.campl_meaning.specs.Journals.{Naming, NamesBoth, with_channel, naming_at_start}
-use Rattle.std.specs.Fmt.{digits}
-use Rattle.campl_meaning.specs.Output.{output_of}
+-- First steps that compute: a call, an expression that needs a call, and a fork.
+use Rattle.std.proofs.Common.{◌≡◌, refl, pos, List, [], ◌∷◌, Option, Some, None, option_map}
+use Rattle.std.specs.Prelude.{codes, ℕ}
+use Rattle.campl_tree.specs.declared.place.Ident.{Ident}
+use Rattle.campl_tree.specs.declared.process.Binder.{Binder}
+use Rattle.campl_tree.specs.declared.process.Binder.TheVariants as binder
+use Rattle.campl_tree.specs.Plain.SeqType as s
+use Rattle.campl_tree.specs.Plain.ChanType as c
+use Rattle.campl_tree.specs.Plain.Pattern as p
+use Rattle.campl_tree.specs.Plain.Expr as e
+use Rattle.campl_tree.specs.Plain.Process as b
+use Rattle.campl_tree.specs.Plain.Process.{Body}
+use Rattle.campl_tree.specs.Plain.Decl as d
+use Rattle.campl_tree.specs.Plain.Decl.{Program, ProcessDecl}
+use Rattle.campl_value.specs.Tree as v
+use Rattle.campl_machine.specs.Names.{Who, Process, End, Half, First}
+use Rattle.campl_types.specs.Names.{Name}
+use Rattle.campl_types.specs.SameType.{nowhere}
+use Rattle.campl_types.specs.World.{world_of}
+use Rattle.campl_peel.specs.Terms.{Doing}
+use Rattle.campl_meaning.specs.States.{Ends, State, Runs}
+use Rattle.campl_meaning.specs.Reductions.{Configuration, reduce}
+use Rattle.campl_meaning.specs.Start.{start}
 
-abbrev console : Name
-console = codes "console"
+abbrev ident : Name → Ident
+ident x = record { place = nowhere; name = x }
 
-abbrev hello : Source
-hello = record {
-  services = record { name = console; kind = Console } ∷ [];
-  body = Then (HPut (codes "ConsolePut") console) (Then (Put (Text (codes "Hello")) console) (Then (HPut (codes "ConsoleClose") console) (Ends (Halt (Some console)))));
+-- a process with these types of values, variables, console channels and body
+abbrev process : Name → List s.SeqType → List Binder → List Name → Body → ProcessDecl
+process name values variables consoles body = record {
+  place = nowhere;
+  name = ident name;
+  parameters = values;
+  inputs = types consoles;
+  outputs = [];
+  row = record { place = nowhere; variables = variables; inputs = idents consoles; outputs = []; body = body };
 }
-
--- one reduction of each of these, one after another
-abbrev reduced : Option Configuration → List Who → Option Configuration
-reduced c [] = c
-reduced None (w ∷ ws) = None
-reduced (Some c) (w ∷ ws) = reduced (after (reduce c w 0)) ws
   where
-    after : Option (Event × Configuration) → Option Configuration
-    after None = None
-    after (Some d) = Some d.1
+    types : List Name → List c.ChanType
+    types [] = []
+    types (x ∷ xs) = c.Named nowhere (codes "Console") s.no_types ∷ types xs
 
-abbrev transcript_behind : Option Configuration → Transcript
-transcript_behind None = []
-transcript_behind (Some c) = transcript_of c 0
+    idents : List Name → List Ident
+    idents [] = []
+    idents (x ∷ xs) = ident x ∷ idents xs
 
--- four actions of the process, and then three of the service
-abbrev turns : List Who
-turns = Process [] ∷ (Process [] ∷ (Process [] ∷ (Process [] ∷ (Service 0 ∷ (Service 0 ∷ (Service 0 ∷ []))))))
+-- what is at a node behind the first step of `run`
+abbrev behind : Program → Who → Option State
+behind source who = node (option_map (λ next. next.1) (reduce (world_of source) (start (world_of source) []) (Process []) 0))
+  where
+    node : Option Configuration → Option State
+    node None = None
+    node (Some c) = c.nodes who
 
-prints_hello : transcript_behind (reduced (Some (start hello [])) turns) ≡ Took (codes "Hello") ∷ (WasClosed ∷ [])
-prints_hello = refl
+-- run is `=> -> last(7)`, and `last` has `n | => -> halt`
+abbrev halts : Body
+halts = b.Halt nowhere None
 
--- in turns
-abbrev other_turns : List Who
-other_turns = Process [] ∷ (Service 0 ∷ (Process [] ∷ (Service 0 ∷ (Process [] ∷ (Service 0 ∷ (Process [] ∷ []))))))
+abbrev calls : Program
+calls =
+    d.Process (process (codes "last") (s.Int ∷ []) (binder.Variable nowhere (codes "n") ∷ []) [] halts)
+    ∷ d.Process (process (codes "run") [] [] [] (b.Call nowhere (codes "last") (e.expr_then (e.Number nowhere (pos 7)) e.no_exprs) [] []))
+    ∷ []
 
-prints_hello_in_turns : transcript_behind (reduced (Some (start hello [])) other_turns) ≡ Took (codes "Hello") ∷ (WasClosed ∷ [])
-prints_hello_in_turns = refl
+call-binds : behind calls (Process []) ≡ Some (Runs (record { term = Doing halts; variables = (codes "n", v.Int (pos 7)) ∷ []; ends = []; steps = 1; spent = 0 }))
+call-binds = refl
 
--- the service has nothing to take before the process has sent
-waits_at_start : reduce (start hello []) (Service 0) 0 ≡ None
-waits_at_start = refl
+-- run is `=> -> case one() of _ -> halt`, and `one` has the value 1: a call is spent first
+abbrev scrutinizes : Body
+scrutinizes = b.Case nowhere (e.Call nowhere (codes "one") e.no_exprs) (b.case_row_then (p.Wildcard nowhere) halts b.no_case_rows)
 
--- what it prints: 54 bytes
-hello_printed : output_of ((console, Took (codes "Hello") ∷ (WasClosed ∷ [])) ∷ []) Finished [] 7
-    ≡ codes "channel console" ++ (10 ∷ []) ++ codes "> Hello" ++ (10 ∷ []) ++ codes "closed" ++ (10 ∷ []) ++ codes "finished after 7 steps" ++ (10 ∷ [])
-unfolding digits lib.Utf8.encode
-hello_printed = refl
+abbrev works : Program
+works =
+    d.Function (record {
+      place = nowhere;
+      name = ident (codes "one");
+      parameters = [];
+      result = s.Int;
+      rows = record { place = nowhere; patterns = p.no_patterns; value = e.Number nowhere (pos 1) } ∷ [];
+    })
+    ∷ d.Process (process (codes "run") [] [] [] scrutinizes)
+    ∷ []
 
--- at its start `run` is the process that is left
-run_is_left : HasProcess (start hello [])
-run_is_left = ([], _, refl)
+work-is-spent : behind works (Process []) ≡ Some (Runs (record { term = Doing scrutinizes; variables = []; ends = []; steps = 1; spent = 1 }))
+work-is-spent = refl
 
--- a process that names a channel that it doesn't hold is broken, whether it names it first or last
-abbrev names_no_channel : Body → Source
-names_no_channel body = record { services = record { name = console; kind = Console } ∷ []; body = body }
+-- run is `| c, d => -> fork c into a -> halt d; b -> halt b`: the first body has d, and each body a channel of its own
+abbrev forks : Program
+forks = d.Process (process (codes "run") [] [] (codes "c" ∷ codes "d" ∷ []) (b.Fork nowhere (ident (codes "c")) (ident (codes "a")) left (ident (codes "b")) right)) ∷ []
+  where
+    left : Body
+    left = b.Halt nowhere (Some (ident (codes "d")))
 
-sends_on_no_channel : IsBrokenAt (start (names_no_channel (Then (HPut (codes "ConsolePut") (codes "printer")) (Ends (Halt None)))) []) []
-sends_on_no_channel = (_, 0, refl, tt)
+    right : Body
+    right = b.Halt nowhere (Some (ident (codes "b")))
 
-halts_no_channel : IsBrokenAt (start (names_no_channel (Ends (Halt (Some (codes "printer"))))) []) []
-halts_no_channel = (_, 0, refl, tt)
+abbrev born : ℕ → End
+born channel = record { bearer = []; step = 1; channel = channel; half = First }
 
--- of two channels that are born the entry tells both numbers, of one the first, and they differ
-abbrev at_start : Naming
-at_start = naming_at_start hello
+abbrev ends_of : Option State → Ends
+ends_of (Some (Runs r)) = r.ends
+ends_of _ = []
 
-abbrev channel : ℕ → End × End
-channel n = (near n, far n)
+first-body : ends_of (behind forks (Process [])) ≡ (codes "a", born 1) ∷ (codes "d", record { bearer = []; step = 0; channel = 2; half = First }) ∷ []
+first-body = refl
 
-two_channels : NamesBoth at_start (Some 1) (Some 2) (channel 1 ∷ (channel 2 ∷ [])) (with_channel 2 (channel 2) (with_channel 1 (channel 1) at_start))
-two_channels = (refl, (refl, refl))
-
-no_second_alone : (m : Naming) → NamesBoth at_start None (Some 1) (channel 1 ∷ []) m → ⊥
-no_second_alone m says = says
-
-no_number_twice : (m : Naming) → NamesBoth at_start (Some 1) (Some 1) (channel 1 ∷ (channel 2 ∷ [])) m → ⊥
-no_number_twice m says = cc says.1.0
+second-body : ends_of (behind forks (Process (record { step = 1; place = 1 } ∷ []))) ≡ (codes "b", born 2) ∷ []
+second-body = refl

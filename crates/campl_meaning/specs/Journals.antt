@@ -2,10 +2,12 @@
 use Rattle.std.specs.Prelude.{◌≡◌, ℕ, zero, suc, ◌+◌, ◌/◌, ◌%◌, ◌≤◌, ◌⊎◌, Bool, true, false, List, [], ◌∷◌, Option, Some, None, if◌then◌else◌, eqb}
 use Rattle.campl_value.specs.Tree.{Tree}
 use Rattle.campl_machine.specs.Names.{End, Who, Process, Service}
-use Rattle.campl_meaning.specs.Commands.{Source, ServiceChannel}
+use Rattle.campl_tree.specs.declared.service.ServiceName.{ServiceName}
+use Rattle.campl_types.specs.World.{World}
+use Rattle.campl_types.specs.Run.{services_of}
+use Rattle.campl_service.specs.Scripts.{Lines}
 use Rattle.campl_meaning.specs.States as s
-use Rattle.campl_meaning.specs.States.{Message, Script}
-use Rattle.campl_meaning.specs.Kinds.{Kind, Work}
+use Rattle.campl_meaning.specs.States.{Message, Kind, Work}
 use Rattle.campl_meaning.specs.Reductions.{Configuration, Event, Reduces}
 use Rattle.campl_meaning.specs.Start.{near, far, start}
 
@@ -99,39 +101,39 @@ abbrev pub IsWeighed : Entry → Type 0
 IsWeighed entry = (1 ≤ entry.weight) × ((entry.kind ≡ Work) ⊎ (entry.weight ≡ 1))
 
 -- k reductions of w, each of them this event
-abbrev pub Times : ℕ → Configuration → Who → Event → Configuration → Type 0
-Times zero c w event d = c ≡ d
-Times (suc k) c w event d = (b : Configuration) × Reduces c w event b × Times k b w event d
+abbrev pub Times : World → ℕ → Configuration → Who → Event → Configuration → Type 0
+Times w zero c who event d = c ≡ d
+Times w (suc k) c who event d = (b : Configuration) × Reduces w c who event b × Times w k b who event d
 
 -- the entries, read by the naming n, lead from c to d, where numbers are read by m
-abbrev pub IsRunOf : Naming → Configuration → List Entry → Naming → Configuration → Type 0
-IsRunOf n c [] m d = (n ≡ m) × (c ≡ d)
-IsRunOf n c (entry ∷ entries) m d =
-    (w : Who) × (event : Event) × (next : Naming) × (b : Configuration)
-    × IsWeighed entry × Says n entry w event next × Times entry.weight c w event b × IsRunOf next b entries m d
+abbrev pub IsRunOf : World → Naming → Configuration → List Entry → Naming → Configuration → Type 0
+IsRunOf w n c [] m d = (n ≡ m) × (c ≡ d)
+IsRunOf w n c (entry ∷ entries) m d =
+    (who : Who) × (event : Event) × (next : Naming) × (b : Configuration)
+    × IsWeighed entry × Says n entry who event next × Times w entry.weight c who event b × IsRunOf w next b entries m d
 
 -- process 0 is `run`, and the services are 1, 2, .. in heading order
-abbrev serving_at : ℕ → List ServiceChannel → ℕ → Option Who
+abbrev serving_at : ℕ → List ServiceName → ℕ → Option Who
 serving_at n [] k = None
 serving_at n (x ∷ xs) zero = Some (Service n)
 serving_at n (x ∷ xs) (suc k) = serving_at (suc n) xs k
 
-abbrev numbered : List ServiceChannel → ℕ → Option Who
+abbrev numbered : List ServiceName → ℕ → Option Who
 numbered services zero = Some (Process [])
 numbered services (suc k) = serving_at 0 services k
 
 -- channels 0, 1, .. are theirs, of which `run` has the first half
-abbrev wire_at : ℕ → List ServiceChannel → ℕ → Option (End × End)
+abbrev wire_at : ℕ → List ServiceName → ℕ → Option (End × End)
 wire_at n [] k = None
 wire_at n (x ∷ xs) zero = Some (near n, far n)
 wire_at n (x ∷ xs) (suc k) = wire_at (suc n) xs k
 
-abbrev pub naming_at_start : Source → Naming
-naming_at_start source = record { who = numbered source.services; channel = wire_at 0 source.services }
+abbrev pub naming_at_start : World → Naming
+naming_at_start w = record { who = numbered (services_of w); channel = wire_at 0 (services_of w) }
 
 -- the entries are a run from the start of a source with these scripts, which ends in d
-abbrev pub IsRunFromStart : Source → List Script → List Entry → Configuration → Type 0
-IsRunFromStart source scripts entries d = (m : Naming) × IsRunOf (naming_at_start source) (start source scripts) entries m d
+abbrev pub IsRunFromStart : World → List Lines → List Entry → Configuration → Type 0
+IsRunFromStart w scripts entries d = (m : Naming) × IsRunOf w (naming_at_start w) (start w scripts) entries m d
 
 -- the steps that entries stand for
 abbrev pub steps_of : List Entry → ℕ

@@ -1,27 +1,49 @@
 -- What a run prints.
-use Rattle.std.specs.Prelude.{ℕ, List, [], ◌∷◌, ◌++◌, codes, encode_utf8_all, flat_map}
+use Rattle.std.specs.Prelude.{ℕ, suc, Bool, true, false, List, [], ◌∷◌, ◌++◌, Option, Some, None, codes, if◌then◌else◌, encode_utf8_all}
 use Rattle.std.specs.Fmt.{decimal}
-use Rattle.campl_value.specs.Shown.{shown_bytes}
-use Rattle.campl_meaning.specs.Commands.{Name}
-use Rattle.campl_meaning.specs.States.{Record, Took, Sent, WasClosed, Transcript}
-use Rattle.campl_meaning.specs.Ends.{Ending, Finished, Awaiting, OutOfSteps, Broken}
-
--- a line feed
-abbrev pub end_of_line : List ℕ
-end_of_line = 10 ∷ []
-
-abbrev pub record_line : Record → List ℕ
-record_line (Took characters) = codes "> " ++ (shown_bytes characters ++ end_of_line)
-record_line (Sent characters) = codes "< " ++ (shown_bytes characters ++ end_of_line)
-record_line WasClosed = codes "closed" ++ end_of_line
+use Rattle.campl_tree.specs.declared.service.ServiceName.{ServiceName}
+use Rattle.campl_machine.specs.Names.{Service}
+use Rattle.campl_types.specs.Names.{Name}
+use Rattle.campl_types.specs.World.{World}
+use Rattle.campl_types.specs.Run.{services_of}
+use Rattle.campl_service.specs.declared.phase.Want.{Want}
+use Rattle.campl_service.specs.declared.phase.Want.TheVariants as w
+use Rattle.campl_service.specs.Services.{want}
+use Rattle.campl_service.specs.Transcripts.{Records}
+use Rattle.campl_service.specs.Output.{end_of_line, transcript_lines}
+use Rattle.campl_meaning.specs.States.{State, Runs, Serves}
+use Rattle.campl_meaning.specs.Reductions.{Configuration}
+use Rattle.campl_meaning.specs.Ends.{Ending, Finished, Awaiting, OutOfSteps, Broken, transcript_of}
 
 -- a name in UTF-8
 abbrev pub spelled : Name → List ℕ
 spelled name = encode_utf8_all name
 
 -- the lines of a channel: its name, and one for each record
-abbrev pub channel_lines : Name → Transcript → List ℕ
-channel_lines name transcript = codes "channel " ++ (spelled name ++ (end_of_line ++ flat_map record_line transcript))
+abbrev pub channel_lines : Name → Records → List ℕ
+channel_lines name transcript = codes "channel " ++ (spelled name ++ (end_of_line ++ transcript_lines transcript))
+
+-- the lines of each service from the n-th on, in heading order
+abbrev pub all_lines : ℕ → List ServiceName → Configuration → List ℕ
+all_lines n [] c = []
+all_lines n (x ∷ xs) c = channel_lines x.name (transcript_of n c) ++ all_lines (suc n) xs c
+
+abbrev is_spent : Want → Bool
+is_spent w.Pick = false
+is_spent w.Text = false
+is_spent w.Send = false
+is_spent w.Spent = true
+is_spent w.Closed = false
+
+abbrev is_asked : Option State → Bool
+is_asked None = false
+is_asked (Some (Runs r)) = false
+is_asked (Some (Serves s)) = is_spent (want s.serving)
+
+-- the names of the services from the n-th on that were asked with their scripts spent
+abbrev pub asked_names : ℕ → List ServiceName → Configuration → List Name
+asked_names n [] c = []
+asked_names n (x ∷ xs) c = if is_asked (c.nodes (Service n)) then x.name ∷ asked_names (suc n) xs c else asked_names (suc n) xs c
 
 abbrev joined_names : List Name → List ℕ
 joined_names [] = []
@@ -40,5 +62,5 @@ abbrev pub last_line : Ending → List Name → (steps : ℕ) → List ℕ
 last_line ending asked steps = ending_words ending asked ++ (codes " after " ++ (decimal steps ++ (codes " steps" ++ end_of_line)))
 
 -- the lines of each service channel in heading order, and the last line
-abbrev pub output_of : List (Name × Transcript) → Ending → (asked : List Name) → (steps : ℕ) → List ℕ
-output_of channels ending asked steps = flat_map (λ channel. channel_lines channel.0 channel.1) channels ++ last_line ending asked steps
+abbrev pub output_of : World → Configuration → Ending → (steps : ℕ) → List ℕ
+output_of w c ending steps = all_lines 0 (services_of w) c ++ last_line ending (asked_names 0 (services_of w) c) steps

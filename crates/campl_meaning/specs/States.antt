@@ -1,9 +1,12 @@
--- The states of processes and services, and the messages between them.
-use Rattle.std.specs.Prelude.{ℕ, List, [], ◌∷◌, Option, Some, None, if◌then◌else◌}
+-- The states of processes and services, the messages between them, and their commands as the machine sees them.
+use Rattle.std.specs.Prelude.{ℕ, List, Option}
 use Rattle.campl_value.specs.Tree.{Tree}
 use Rattle.campl_machine.specs.Names.{End}
-use Rattle.campl_meaning.specs.Commands.{Name, same_name, Body, ServiceKind}
-use Rattle.campl_meaning.specs.Evaluation.{Variables}
+use Rattle.campl_machine.specs.Machine.{Act}
+use Rattle.campl_types.specs.Names.{Name}
+use Rattle.campl_types.specs.Matching.{Bindings}
+use Rattle.campl_service.specs.Services.{Serving}
+use Rattle.campl_peel.specs.Terms.{Term}
 
 pub data Message : Type 0 where
   -- a value, sent by `put`
@@ -13,57 +16,53 @@ pub data Message : Type 0 where
   -- two ends, sent by `fork`
   EndPair : End → End → Message
 
--- what a process has still to do
-pub data Term : Type 0 where
-  Doing : Body → Term
-
 -- the ends that a process holds, each under its name
-abbrev pub Held : Type 0
-Held = List (Name × End)
+abbrev pub Ends : Type 0
+Ends = List (Name × End)
 
 pub record Running : Type 0 where
   pub term : Term
-  pub variables : Variables
-  pub ends : Held
+  pub variables : Bindings
+  pub ends : Ends
   -- the steps that it has made
   pub steps : ℕ
   -- the calls that were spent on its present command
   pub spent : ℕ
 
--- what a service waits for
-pub data Phase : Type 0 where
-  AwaitsPick : Phase
-  AwaitsText : Phase
-  SendsLine : Phase
-  Closed : Phase
-
--- what a service writes down
-pub data Record : Type 0 where
-  -- a text that it took, by its characters
-  Took : List ℕ → Record
-  -- a line of its script that it sent
-  Sent : List ℕ → Record
-  WasClosed : Record
-
-abbrev pub Transcript : Type 0
-Transcript = List Record
-
--- the lines that a service has still to send, each by its characters
-abbrev pub Script : Type 0
-Script = List (List ℕ)
-
-pub record Serving : Type 0 where
-  pub kind : ServiceKind
+-- a service at its end
+pub record Attending : Type 0 where
   pub end : End
-  pub script : Script
-  pub phase : Phase
-  pub transcript : Transcript
+  pub serving : Serving
 
 pub data State : Type 0 where
   Runs : Running → State
-  Serves : Serving → State
+  Serves : Attending → State
 
--- the end that is held under a name
-abbrev pub held : Name → Held → Option End
-held x [] = None
-held x (e ∷ es) = if same_name e.0 x then Some e.1 else held x es
+pub data Kind : Type 0 where
+  -- one more call of a declared function is spent on the present command
+  Work : Kind
+  Call : Kind
+  Case : Kind
+  Put : Kind
+  Get : Kind
+  Pick' : Kind
+  Offer : Kind
+  Split : Kind
+  Fork : Kind
+  Close : Kind
+  Halt : Kind
+  Link : Kind
+  Peel : Kind
+  -- a race goes on as this branch, from 0
+  Choose : (branch : ℕ) → Kind
+  -- a service takes a constructor, takes a text, sends a line
+  ServePick : Kind
+  ServeText : Kind
+  ServeLine : Kind
+
+-- the next command of a process or service: its kind, the ends that it names, and what it does
+pub record Command : Type 0 where
+  pub kind : Kind
+  pub end : Option End
+  pub second : Option End
+  pub act : Act State Message

@@ -10,4 +10,6 @@ pub mod Cycles
 pub mod Peeled
 pub mod OneOrder
 pub mod OneFault
+pub mod Ordered
+pub mod Faulted
 mod Examples

@@ -4,3 +4,5 @@ pub mod Order
 pub mod Faults
 pub mod Labels
 pub mod Search
+pub mod TreeOrder
+pub mod FirstFault

@@ -1,5 +1,5 @@
 //! Laws over the definitions, functions with nothing to do, whose contracts they are.
-ghost use Rattle.std.specs.Prelude.{◌≡◌, ◌≢◌, ◌≤◌, ◌↔◌, ℕ, All, List, Some, slice_get};
+ghost use Rattle.std.specs.Prelude.{◌≡◌, ◌≢◌, ◌≤◌, ◌↔◌, ℕ, All, List, Some, None, slice_get};
 ghost use Rattle.campl_plug.specs.declared.plug.Link.{Link};
 ghost use Rattle.campl_plug.specs.declared.plug.PlugFault.{PlugFault};
 ghost use Rattle.campl_plug.specs.declared.plug.PlugFault.TheVariants.{OutOfMemory};
@@ -7,6 +7,8 @@ ghost use Rattle.campl_plug.specs.Links.{IsPart, IsWithin};
 ghost use Rattle.campl_plug.specs.Tree.{AreReached, HasNoCycle, IsTree};
 ghost use Rattle.campl_plug.specs.Order.{HasOneLinkBack, IsBreadthFirst};
 ghost use Rattle.campl_plug.specs.Faults.{IsFaultOf};
+ghost use Rattle.campl_plug.specs.TreeOrder.{tree_order_of};
+ghost use Rattle.campl_plug.specs.FirstFault.{fault_of};
 
 /// Each link joins two parts that weren't joined before, and each part is reached, exactly where k - 1 links
 /// reach each part.
@@ -37,4 +39,17 @@ pub fn law_trees_have_no_fault()
 pub fn law_faults_are_one()
     ensures { (k : ℕ) (links : List Link) (fault other : PlugFault) → IsFaultOf k links fault → IsFaultOf k links other
         → fault ≢ OutOfMemory → other ≢ OutOfMemory → fault ≡ other }
+{}
+
+/// The order that is computed is the breadth-first order.
+pub fn law_order_computes()
+    ensures { (k : ℕ) (links : List Link) → 1 ≤ k → All (IsWithin k) links → IsTree k links → (order : List ℕ)
+        → IsBreadthFirst k links order ↔ (order ≡ tree_order_of k links) }
+{}
+
+/// The fault that is computed is the fault of the links, and there is none exactly where they form a tree.
+pub fn law_fault_computes()
+    ensures tree { (k : ℕ) (links : List Link) → 1 ≤ k → All (IsWithin k) links → IsTree k links ↔ (fault_of k links ≡ None) }
+    ensures fault { (k : ℕ) (links : List Link) → 1 ≤ k → All (IsWithin k) links → (fault : PlugFault) → fault ≢ OutOfMemory
+        → IsFaultOf k links fault ↔ (fault_of k links ≡ Some fault) }
 {}

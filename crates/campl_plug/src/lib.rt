@@ -12,7 +12,8 @@
 //! Links and faults stand in `plug`, the labels that tell joined parts in `labels`, the search in `search`,
 //! and both come together in `tree`. `laws` says what the definitions have to do with one another: a tree is
 //! the same as parts that are reached and links without a cycle, its order is the only one, and each part but
-//! the first has exactly one link to the parts before it, so that the last can be peeled off.
+//! the first has exactly one link to the parts before it, so that the last can be peeled off. Order and first fault are also
+//! functions that compute, in `specs/TreeOrder` and `specs/FirstFault`.
 #![tactic(auto)]
 
 mod labels;
@@ -22,8 +23,8 @@ mod search;
 mod tree;
 
 pub use laws::{
-    law_faults_are_one, law_orders_are_one, law_parts_have_one_link_back, law_trees_have_no_cycle,
-    law_trees_have_no_fault,
+    law_fault_computes, law_faults_are_one, law_order_computes, law_orders_are_one,
+    law_parts_have_one_link_back, law_trees_have_no_cycle, law_trees_have_no_fault,
 };
 pub use plug::{Link, PlugFault};
 pub use tree::tree_order;

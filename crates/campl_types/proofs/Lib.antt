@@ -9,7 +9,7 @@ pub mod Lowers
 pub mod Bare
 pub mod Deeds
 pub mod EachOnce
-pub mod ChoiceNumbers
+pub mod Choices
 pub mod Turned
 pub mod Compose
 pub mod SameValue

@@ -2,8 +2,8 @@
 use Rattle.std.proofs.Common.{◌≡◌, ap, sym, ◌∙◌, map, ◌++◌, List, ℕ}
 use Rattle.std.proofs.lemmas.List.{append-nil, at_drop_all}
 use Rattle.std.specs.Prelude.{string_bytes, chars, flat_map}
-use Rattle.campl_meaning.specs.States.{Took}
-use Rattle.campl_meaning.specs.Output.{record_line}
+use Rattle.campl_first_path.specs.States.{Took}
+use Rattle.campl_first_path.specs.Output.{record_line}
 use Rattle.campl_cli.proofs.OutputLines.{whole_output}
 use Rattle.campl_cli.proofs.output.output.Goals as goal
 

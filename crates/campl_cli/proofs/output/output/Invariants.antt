@@ -1,7 +1,7 @@
 use Rattle.std.proofs.Common.{◌≡◌, ◌++◌, drop, map}
 use Rattle.std.specs.Prelude.{string_bytes, chars, flat_map}
-use Rattle.campl_meaning.specs.States.{Took}
-use Rattle.campl_meaning.specs.Output.{record_line}
+use Rattle.campl_first_path.specs.States.{Took}
+use Rattle.campl_first_path.specs.Output.{record_line}
 use Rattle.campl_cli.proofs.output.output.Given as goal
 
 -- the lines so far and those that are left make all lines of the texts

@@ -2,7 +2,7 @@
 use Rattle.std.proofs.Common.{◌∷◌, []}
 use Rattle.std.specs.Prelude.{chars}
 use Rattle.campl_value.specs.Shown.{shown_bytes}
-use Rattle.campl_meaning.specs.Output.{end_of_line}
+use Rattle.campl_first_path.specs.Output.{end_of_line}
 use Rattle.campl_cli.proofs.OutputLines.{three_parts}
 use Rattle.campl_cli.proofs.output.push_taken.Goals as goal
 

@@ -1,0 +1,10 @@
+pub mod Commands
+pub mod Evaluation
+pub mod States
+pub mod Kinds
+pub mod Services
+pub mod Reductions
+pub mod Start
+pub mod Ends
+pub mod Journals
+pub mod Output

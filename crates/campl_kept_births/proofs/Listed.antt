@@ -1,0 +1,127 @@
+-- Lists of ends: some kept, and one more.
+use Rattle.std.proofs.Common.{◌≡◌, ◌≢◌, ◌⊎◌, ◌∙◌, inl, inr, refl, sym, ap, subst, Bool, true, false, ◌||◌, not, true≢false, IsTrue, List, [], ◌∷◌, Some, None, if◌then◌else◌}
+use Rattle.campl_machine.specs.Names.{End, same_end}
+use Rattle.campl_machine.proofs.Same.{same_end-is}
+use Rattle.campl_machine.proofs.Updates.{split}
+use Rattle.campl_types.specs.Names.{Name, same_name, is_among, are_distinct, found}
+use Rattle.campl_types.proofs.Names.{same-is, same-itself}
+use Rattle.campl_peel.specs.Terms.{those}
+use Rattle.campl_meaning.specs.States.{Ends}
+use Rattle.campl_meaning.specs.Bodies.{without_end}
+use Rattle.campl_meaning.specs.Apart.{end_names}
+use Rattle.campl_peel.proofs.Terms.{found-those}
+use Rattle.campl_kept_births.proofs.Frame.{lists, or-first, or-second, or-split, some-is, and-both, not-true, lists-found}
+
+-- names differ, and so do ends
+pub record IsTidy (es : Ends) : Type 0 where
+  pub names : IsTrue (are_distinct (end_names es))
+  pub once : (x y : Name) (e : End) → found x es ≡ Some e → found y es ≡ Some e → x ≡ y
+
+pub found-kept : (keep : Name → Bool) (es : Ends) (y : Name) (e : End) → found y (those keep es) ≡ Some e → (keep y ≡ true) × (found y es ≡ Some e)
+found-kept keep es y e i = elim (split (keep y)) [
+  | inl k ↦ (k, let j : (if keep y then found y es else None) ≡ Some e = sym (found-those keep es y) ∙ i in rw k at j)
+  | inr k ↦ absurd (let j : (if keep y then found y es else None) ≡ Some e = sym (found-those keep es y) ∙ i in let no : None ≡ Some e = rw k at j in cc no)
+]
+
+pub found-still : (keep : Name → Bool) (es : Ends) (y : Name) (e : End) → keep y ≡ true → found y es ≡ Some e → found y (those keep es) ≡ Some e
+found-still keep es y e k i = found-those keep es y ∙ rw k i
+
+pub not-kept : (keep : Name → Bool) (es : Ends) (y : Name) → found y es ≡ None → found y (those keep es) ≡ None
+not-kept keep es y i = found-those keep es y ∙ elim (split (keep y)) [ inl k ↦ rw k i | inr k ↦ rw k refl ]
+
+among-kept : (keep : Name → Bool) (es : Ends) (x : Name) → is_among x (end_names (those keep es)) ≡ true → is_among x (end_names es) ≡ true
+among-kept keep [] x i = i
+among-kept keep (e ∷ es) x i = elim (split (keep e.0)) [
+  | inl k ↦
+      let j : (same_name x e.0 || is_among x (end_names (those keep es))) ≡ true = rw k at i in
+      elim (or-split (same_name x e.0) (is_among x (end_names (those keep es))) j) [
+        | inl s ↦ or-first (same_name x e.0) (is_among x (end_names es)) s
+        | inr s ↦ or-second (same_name x e.0) (is_among x (end_names es)) (among-kept keep es x s)
+      ]
+  | inr k ↦ let j : is_among x (end_names (those keep es)) ≡ true = rw k at i in or-second (same_name x e.0) (is_among x (end_names es)) (among-kept keep es x j)
+]
+
+false-if : (a : Bool) → (a ≡ true → ⊥) → a ≡ false
+false-if true h = absurd (h refl)
+false-if false h = refl
+
+distinct-more : (x : Name) (xs : List Name) → is_among x xs ≡ false → are_distinct xs ≡ true → are_distinct (x ∷ xs) ≡ true
+distinct-more x xs i j = rw (i, j) refl
+
+distinct-those : (keep : Name → Bool) (es : Ends) → are_distinct (end_names es) ≡ true → are_distinct (end_names (those keep es)) ≡ true
+distinct-those keep [] d = d
+distinct-those keep (e ∷ es) d =
+    let b : (not (is_among e.0 (end_names es)) ≡ true) × (are_distinct (end_names es) ≡ true) = and-both (not (is_among e.0 (end_names es))) (are_distinct (end_names es)) d in
+    elim (split (keep e.0)) [
+      | inl k ↦
+          rw k (distinct-more e.0 (end_names (those keep es))
+          (false-if (is_among e.0 (end_names (those keep es))) (λ t. true≢false (sym (among-kept keep es e.0 t) ∙ not-true (is_among e.0 (end_names es)) b.0)))
+          (distinct-those keep es b.1))
+      | inr k ↦ rw k (distinct-those keep es b.1)
+    ]
+
+-- a name that isn't found isn't there
+not-there : (x : Name) (es : Ends) → found x es ≡ None → is_among x (end_names es) ≡ false
+not-there x [] i = refl
+not-there x (e ∷ es) i = elim (split (same_name x e.0)) [
+  | inl s ↦ absurd (let no : Some e.1 ≡ None = rw s at i in cc no)
+  | inr s ↦ let j : found x es ≡ None = rw s at i in rw s (not-there x es j)
+]
+
+pub found-more : (x : Name) (k : End) (es : Ends) (y : Name) (e : End) → found y ((x, k) ∷ es) ≡ Some e → ((y ≡ x) × (e ≡ k)) ⊎ (found y es ≡ Some e)
+found-more x k es y e i = elim (split (same_name y x)) [
+  | inl s ↦ let j : Some k ≡ Some e = rw s at i in inl (same-is y x s, sym (some-is k e j))
+  | inr s ↦ inr (rw s at i)
+]
+
+pub found-first : (x : Name) (k : End) (es : Ends) → found x ((x, k) ∷ es) ≡ Some k
+found-first x k es = rw (same-itself x) refl
+
+pub lists-first : (x : Name) (k : End) (es : Ends) → lists k ((x, k) ∷ es) ≡ true
+lists-first x k es = lists-found k ((x, k) ∷ es) x (found-first x k es)
+
+pub lists-more : (x : Name) (k : End) (es : Ends) (e : End) → lists e ((x, k) ∷ es) ≡ true → (e ≡ k) ⊎ (lists e es ≡ true)
+lists-more x k es e i = elim (or-split (same_end e k) (lists e es) i) [ inl s ↦ inl (same_end-is e k s) | inr s ↦ inr s ]
+
+pub lists-later : (x : Name) (k : End) (es : Ends) (e : End) → lists e es ≡ true → lists e ((x, k) ∷ es) ≡ true
+lists-later x k es e i = or-second (same_end e k) (lists e es) i
+
+pub tidy-those : (keep : Name → Bool) (es : Ends) → IsTidy es → IsTidy (those keep es)
+tidy-those keep es t = record {
+  names = distinct-those keep es t.names;
+  once = λ x y e i j. t.once x y e (found-kept keep es x e i).1 (found-kept keep es y e j).1;
+}
+
+pub tidy-more : (x : Name) (k : End) (es : Ends) → IsTidy es → found x es ≡ None → ((y : Name) → found y es ≢ Some k) → IsTidy ((x, k) ∷ es)
+tidy-more x k es t n f = record {
+  names = distinct-more x (end_names es) (not-there x es n) t.names;
+  once = λ y z e i j. elim (found-more x k es y e i) [
+    | inl (a, b) ↦ elim (found-more x k es z e j) [
+      | inl (u, v) ↦ a ∙ sym u
+      | inr v ↦ absurd (f z (v ∙ ap Some b))
+    ]
+    | inr a ↦ elim (found-more x k es z e j) [
+      | inl (u, v) ↦ absurd (f y (a ∙ ap Some v))
+      | inr v ↦ t.once y z e a v
+    ]
+  ];
+}
+
+-- without one name
+pub without-those : (x : Name) (es : Ends) → without_end x es ≡ those (λ y. not (same_name x y)) es
+without-those x [] = refl
+without-those x (e ∷ es) = elim (split (same_name x e.0)) [
+  | inl s ↦ rw s (without-those x es)
+  | inr s ↦ rw s (ap (λ (z : Ends). e ∷ z) (without-those x es))
+]
+
+pub tidy-without : (x : Name) (es : Ends) → IsTidy es → IsTidy (without_end x es)
+tidy-without x es t = subst IsTidy (sym (without-those x es)) (tidy-those (λ y. not (same_name x y)) es t)
+
+pub found-without : (x : Name) (es : Ends) (y : Name) (e : End) → found y (without_end x es) ≡ Some e → (same_name x y ≡ false) × (found y es ≡ Some e)
+found-without x es y e i =
+    let k : (not (same_name x y) ≡ true) × (found y es ≡ Some e) = found-kept (λ y. not (same_name x y)) es y e (subst (λ z. found y z ≡ Some e) (without-those x es) i) in
+    (not-true (same_name x y) k.0, k.1)
+
+pub still-without : (x : Name) (es : Ends) (y : Name) (e : End) → same_name x y ≡ false → found y es ≡ Some e → found y (without_end x es) ≡ Some e
+still-without x es y e n i = subst (λ z. found y z ≡ Some e) (sym (without-those x es)) (found-still (λ y. not (same_name x y)) es y e (rw n refl) i)

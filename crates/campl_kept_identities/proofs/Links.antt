@@ -1,0 +1,361 @@
+-- An identity keeps a configuration lawful.
+use Rattle.std.proofs.Common.{◌≡◌, ◌≢◌, ℕ, Bool, false, List, [], ◌∷◌, ◌++◌, ◌⊎◌, inl, inr, refl, sym, ap, subst, ◌∙◌, Some, None, if◌then◌else◌}
+use Rattle.campl_tree.specs.declared.service.Side.{Side}
+use Rattle.campl_tree.specs.Plain.ChanType.{TopBot}
+use Rattle.campl_tree.specs.Plain.Decl.{Program}
+use Rattle.campl_machine.specs.Names.{TellsApart, Path, End, Who, Process, Service, same_end, same_who}
+use Rattle.campl_machine.specs.Graph.{Graph, NoCycle}
+use Rattle.campl_machine.proofs.Same.{same_end-is, same_end-refl, same_who-is}
+use Rattle.campl_machine.proofs.Updates.{split}
+use Rattle.campl_machine.proofs.Ends.{Off}
+use Rattle.campl_machine.proofs.IdentityForest.{identity-forest}
+use Rattle.campl_machine.proofs.Shapes.{gives-up-forest}
+use Rattle.campl_types.specs.World.{World, world_of}
+use Rattle.campl_types.specs.Views.{turned}
+use Rattle.campl_types.specs.Held.{On}
+use Rattle.campl_types.proofs.Turned.{turned-twice}
+use Rattle.campl_meaning.specs.States.{Message, EndPair, State, Runs, Serves}
+use Rattle.campl_meaning.specs.Reductions.{Configuration}
+use Rattle.campl_meaning.specs.Apart.{Place, At, In, Gone, IsCarried, IsJoined, IsHeldBy, IsServedBy, IsPlaced, IsNamed, Node, Holder, Pair, node_of, graph, owes_pair}
+use Rattle.campl_meaning.specs.Lawful.{seen, Agree, IsPairOf, AreLastPairs, Lawful}
+use Rattle.campl_kept_identities.proofs.Pairs.{HasPair, the-pair, LiesBehind, pair-behind, owes-behind, carried-after, carried-behind, none-carried, not-empty}
+use Rattle.campl_kept_identities.proofs.Places.{forgets, stays-at, stays-in, stays-gone, stays-own, stood-at, stood-in, was-given-up}
+use Rattle.campl_kept_identities.proofs.Around.{Went, Stayed, Left, FarX, FarY, Kept, IsAround}
+use Rattle.campl_kept_identities.proofs.Agreeing.{agree-turned, agree-kept, far-agree, far-pair}
+
+-- the process p has the two ends x and y of an identity, and no other that may be used
+pub record IsIdentity (source : Program) (c : Configuration) (l : Lawful source c) (p : Who) (x y x2 y2 : End) : Type 0 where
+  pub partner_x : c.partner x ≡ Some x2
+  pub partner_y : c.partner y ≡ Some y2
+  pub two_ends : x ≢ y
+  pub two_channels : x2 ≢ y
+  pub at_x : l.place x ≡ At p
+  pub at_y : l.place y ≡ At p
+  pub views : seen l.channel y ≡ turned (seen l.channel x)
+  pub alone : (e : End) → IsJoined c e → l.place e ≡ At p → (e ≡ x) ⊎ ((e ≡ y) ⊎ (l.channel e ≡ None))
+
+module _ (source : Program) (c d : Configuration) (l : Lawful source c) (p : Who) (x y x2 y2 : End) (k : IsIdentity source c l p x y x2 y2) (s : IsAround c d p x y x2 y2) where
+  abbrev w : World
+  w = world_of source
+
+  abbrev place2 : End → Place
+  place2 e = forgets p (l.place e)
+
+  back_x : c.partner x2 ≡ Some x
+  back_x = l.apart.placed.paired.back x x2 k.partner_x
+
+  back_y : c.partner y2 ≡ Some y
+  back_y = l.apart.placed.paired.back y y2 k.partner_y
+
+  -- Nodes
+
+  old-node : (who : Who) (t : State) → d.nodes who ≡ Some t → (p ≢ who) × (c.nodes who ≡ Some t)
+  old-node who t i = elim (s.nodes who) [ Went q j ↦ absurd (cc (i, j)) | Stayed n j ↦ (n, sym j ∙ i) ]
+
+  new-node : (who : Who) (t : State) → p ≢ who → c.nodes who ≡ Some t → d.nodes who ≡ Some t
+  new-node who t n i = elim (s.nodes who) [ Went q j ↦ absurd (n q) | Stayed m j ↦ j ∙ i ]
+
+  -- Partners
+
+  was-joined : (e : End) → IsJoined d e → IsJoined c e
+  was-joined e (f, i) = elim (s.ends e) [
+    | Left a j o ↦ absurd (cc (i, j))
+    | FarX a j o ↦ (x, ap c.partner (sym a) ∙ back_x)
+    | FarY a j o ↦ (y, ap c.partner (sym a) ∙ back_y)
+    | Kept a j o ↦ (f, sym j ∙ i)
+  ]
+
+  stays-joined : (e : End) → x ≢ e → y ≢ e → IsJoined c e → IsJoined d e
+  stays-joined e nx ny (f, i) = elim (s.ends e) [
+    | Left a j o ↦ absurd (elim a [ inl q ↦ nx q | inr q ↦ ny q ])
+    | FarX a j o ↦ (y2, j)
+    | FarY a j o ↦ (x2, j)
+    | Kept a j o ↦ (f, j ∙ i)
+  ]
+
+  not-left : (e : End) → IsJoined d e → (x ≢ e) × (y ≢ e)
+  not-left e (f, i) = elim (s.ends e) [
+    | Left a j o ↦ absurd (cc (i, j))
+    | FarX a j o ↦ ((λ q. l.apart.placed.paired.other x (cc (k.partner_x, q, a))), (λ q. k.two_channels (a ∙ sym q)))
+    | FarY a j o ↦ ((λ q. k.two_channels (cc (k.partner_x, back_y, q, a))), (λ q. l.apart.placed.paired.other y (cc (k.partner_y, q, a))))
+    | Kept a j o ↦ (a.not_x, a.not_y)
+  ]
+
+  -- what stands elsewhere is none of its ends
+  other-place : (e : End) (o : Place) → l.place e ≡ o → o ≢ At p → (x ≢ e) × (y ≢ e)
+  other-place e o i n = ((λ q. n (sym i ∙ (ap l.place (sym q) ∙ k.at_x))), (λ q. n (sym i ∙ (ap l.place (sym q) ∙ k.at_y))))
+
+  -- What is owed
+
+  no-pair : (z : End) → l.place z ≡ At p → owes_pair (c.owed z) ≡ false
+  no-pair z i = elim (split (owes_pair (c.owed z))) [
+    | inl j ↦
+        let h : HasPair (c.owed z) = the-pair (c.owed z) j in
+        let gone : l.place z ≡ Gone = (l.pairs.given_up z h.one h.other h.before h.after h.is).0 in
+        absurd (cc (i, gone))
+    | inr j ↦ j
+  ]
+
+  no-pair-x : owes_pair (c.owed x) ≡ false
+  no-pair-x = no-pair x k.at_x
+
+  no-pair-y : owes_pair (c.owed y) ≡ false
+  no-pair-y = no-pair y k.at_y
+
+  owes-pair : (e : End) → (owes_pair (d.owed e) ≡ false) ⊎ (owes_pair (d.owed e) ≡ owes_pair (c.owed e))
+  owes-pair e = elim (s.ends e) [
+    | Left a j o ↦ inl (ap owes_pair o)
+    | FarX a j o ↦ inr (ap owes_pair o ∙ (owes-behind (c.owed y) (c.owed x2) no-pair-y ∙ ap (λ (z : End). owes_pair (c.owed z)) a))
+    | FarY a j o ↦ inr (ap owes_pair o ∙ (owes-behind (c.owed x) (c.owed y2) no-pair-x ∙ ap (λ (z : End). owes_pair (c.owed z)) a))
+    | Kept a j o ↦ inr (ap owes_pair o)
+  ]
+
+  was-carried : (z e : End) → IsCarried (d.owed z) e → IsCarried (c.owed z) e
+  was-carried z e h = elim (s.ends z) [
+    | Left a j o ↦ absurd (subst (λ (ms : List Message). IsCarried ms e) o h)
+    | FarX a j o ↦ subst (λ (v : End). IsCarried (c.owed v) e) a (carried-behind (c.owed y) (c.owed x2) e no-pair-y (subst (λ (ms : List Message). IsCarried ms e) o h))
+    | FarY a j o ↦ subst (λ (v : End). IsCarried (c.owed v) e) a (carried-behind (c.owed x) (c.owed y2) e no-pair-x (subst (λ (ms : List Message). IsCarried ms e) o h))
+    | Kept a j o ↦ subst (λ (ms : List Message). IsCarried ms e) o h
+  ]
+
+  stays-carried : (z e : End) → IsCarried (c.owed z) e → IsCarried (d.owed z) e
+  stays-carried z e h = elim (s.ends z) [
+    | Left a j o ↦ absurd (elim a [
+      | inl q ↦ none-carried (c.owed x) e no-pair-x (subst (λ (v : End). IsCarried (c.owed v) e) (sym q) h)
+      | inr q ↦ none-carried (c.owed y) e no-pair-y (subst (λ (v : End). IsCarried (c.owed v) e) (sym q) h)
+    ])
+    | FarX a j o ↦ subst (λ (ms : List Message). IsCarried ms e) (sym o) (carried-after (c.owed y) (c.owed x2) e (subst (λ (v : End). IsCarried (c.owed v) e) (sym a) h))
+    | FarY a j o ↦ subst (λ (ms : List Message). IsCarried ms e) (sym o) (carried-after (c.owed x) (c.owed y2) e (subst (λ (v : End). IsCarried (c.owed v) e) (sym a) h))
+    | Kept a j o ↦ subst (λ (ms : List Message). IsCarried ms e) (sym o) h
+  ]
+
+  -- Part 1
+
+  idle : (e : End) → d.partner e ≡ None → d.owed e ≡ []
+  idle e n = elim (s.ends e) [
+    | Left a j o ↦ o
+    | FarX a j o ↦ absurd (cc (n, j))
+    | FarY a j o ↦ absurd (cc (n, j))
+    | Kept a j o ↦ o ∙ l.apart.placed.idle e (sym j ∙ n)
+  ]
+
+  at-other : (e : End) (who : Who) → p ≢ who → l.place e ≡ At who → IsJoined c e → (place2 e ≡ At who) × IsJoined d e
+  at-other e who n i j =
+      let o : (x ≢ e) × (y ≢ e) = other-place e (At who) i (λ q. n (sym (cc q))) in
+      (stays-at p who (l.place e) n i, stays-joined e o.0 o.1 j)
+
+  held : (q : Path) (e : End) → IsHeldBy d q e → (place2 e ≡ At (Process q)) × IsJoined d e
+  held q e (r, z, i, f) =
+      let o : (p ≢ Process q) × (c.nodes (Process q) ≡ Some (Runs r)) = old-node (Process q) (Runs r) i in
+      let h : (l.place e ≡ At (Process q)) × IsJoined c e = l.apart.placed.held q e (r, z, o.1, f) in
+      at-other e (Process q) o.0 h.0 h.1
+
+  served : (n : ℕ) (e : End) → IsServedBy d n e → (place2 e ≡ At (Service n)) × IsJoined d e
+  served n e (t, i, f, g) =
+      let o : (p ≢ Service n) × (c.nodes (Service n) ≡ Some (Serves t)) = old-node (Service n) (Serves t) i in
+      let h : (l.place e ≡ At (Service n)) × IsJoined c e = l.apart.placed.served n e (t, o.1, f, g) in
+      at-other e (Service n) o.0 h.0 h.1
+
+  carried : (z e : End) → IsCarried (d.owed z) e → (place2 e ≡ In z) × IsJoined d e
+  carried z e h =
+      let i : (l.place e ≡ In z) × IsJoined c e = l.apart.placed.carried z e (was-carried z e h) in
+      let o : (x ≢ e) × (y ≢ e) = other-place e (In z) i.0 (λ q. cc q) in
+      (stays-in p z (l.place e) i.0, stays-joined e o.0 o.1 i.1)
+
+  holder : (q : Path) (e : End) → IsJoined d e → place2 e ≡ At (Process q) → IsHeldBy d q e
+  holder q e j i =
+      let o : (p ≢ Process q) × (l.place e ≡ At (Process q)) = stood-at p (Process q) (l.place e) i in
+      let (r, z, f, g) = l.apart.placed.holder q e (was-joined e j) o.1 in
+      (r, z, new-node (Process q) (Runs r) o.0 f, g)
+
+  server : (n : ℕ) (e : End) → IsJoined d e → place2 e ≡ At (Service n) → IsServedBy d n e
+  server n e j i =
+      let o : (p ≢ Service n) × (l.place e ≡ At (Service n)) = stood-at p (Service n) (l.place e) i in
+      let (t, f, g, h) = l.apart.placed.server n e (was-joined e j) o.1 in
+      (t, new-node (Service n) (Serves t) o.0 f, g, h)
+
+  carrier : (z e : End) → IsJoined d e → place2 e ≡ In z → IsCarried (d.owed z) e
+  carrier z e j i = stays-carried z e (l.apart.placed.carrier z e (was-joined e j) (stood-in p z (l.place e) i))
+
+  placed : IsPlaced d place2
+  placed = record {
+    kinds = λ who t i. l.apart.placed.kinds who t (old-node who t i).1;
+    paired = s.paired;
+    idle = idle;
+    nowhere = λ e i. elim (s.ends e) [
+      | Left a j o ↦ stays-own p (l.place e) (elim a [ inl q ↦ ap l.place (sym q) ∙ k.at_x | inr q ↦ ap l.place (sym q) ∙ k.at_y ])
+      | FarX a j o ↦ absurd (cc (i, j))
+      | FarY a j o ↦ absurd (cc (i, j))
+      | Kept a j o ↦ stays-gone p (l.place e) (l.apart.placed.nowhere e (sym j ∙ i))
+    ];
+    held = held;
+    served = served;
+    carried = carried;
+    shut = λ n t i h.
+        let (g, j) = l.apart.placed.shut n t (old-node (Service n) (Serves t) i).1 h in
+        let (nx, ny) = other-place t.end Gone g (λ m. cc m) in
+        (stays-gone p (l.place t.end) g, stays-joined t.end nx ny j);
+    holder = holder;
+    server = server;
+    carrier = carrier;
+    names = λ q r i. l.apart.placed.names q r (old-node (Process q) (Runs r) i).1;
+    ends = λ q r a b e i f g. l.apart.placed.ends q r a b e (old-node (Process q) (Runs r) i).1 f g;
+  }
+
+  given-up : (e : End) → IsJoined d e → place2 e ≡ Gone → (l.channel e ≡ None) ⊎ ((r : Side) × (l.channel e ≡ Some (On r TopBot)))
+  given-up e j i = elim (was-given-up p (l.place e) i) [
+    | inl g ↦ l.given_up e (was-joined e j) g
+    | inr g ↦
+        let n : (x ≢ e) × (y ≢ e) = not-left e j in
+        elim (k.alone e (was-joined e j) g) [
+          | inl q ↦ absurd (n.0 (sym q))
+          | inr (inl q) ↦ absurd (n.1 (sym q))
+          | inr (inr q) ↦ inl q
+        ]
+  ]
+
+  -- Part 3
+
+  kept-too : (e f : End) → Off x y x2 y2 e → d.partner e ≡ Some f → d.owed f ≡ c.owed f
+  kept-too e f n i =
+      let b : d.partner f ≡ Some e = s.paired.back e f i in
+      elim (s.ends f) [
+        | Left a j o ↦ absurd (cc (b, j))
+        | FarX a j o ↦ absurd (n.not_y2 (cc (b, j)))
+        | FarY a j o ↦ absurd (n.not_x2 (cc (b, j)))
+        | Kept a j o ↦ o
+      ]
+
+  new-agree : Agree w d l.channel x2 y2
+  new-agree = far-agree w l.channel c x y x2 y2 (l.agree x x2 k.partner_x) (l.agree y y2 k.partner_y) k.views d s.owed_x2 s.owed_y2
+
+  agree : (e f : End) → d.partner e ≡ Some f → Agree w d l.channel e f
+  agree e f i = elim (s.ends e) [
+    | Left a j o ↦ absurd (cc (i, j))
+    | FarX a j o ↦
+        let q : y2 ≡ f = cc (i, j) in
+        subst (λ (z : End). Agree w d l.channel z f) a (subst (λ (z : End). Agree w d l.channel x2 z) q new-agree)
+    | FarY a j o ↦
+        let q : x2 ≡ f = cc (i, j) in
+        subst (λ (z : End). Agree w d l.channel z f) a (subst (λ (z : End). Agree w d l.channel y2 z) q (agree-turned w l.channel d x2 y2 new-agree))
+    | Kept a j o ↦ agree-kept w l.channel c d e f o (kept-too e f a i) (l.agree e f (sym j ∙ i))
+  ]
+
+  -- Part 4
+
+  -- a pair was owed by the same end, behind other messages, and its receipt is the same
+  record WasPair (z a b : End) (before after : List Message) : Type 0 where
+    pub old : List Message
+    pub was : c.owed z ≡ old ++ (EndPair a b ∷ after)
+    pub fits : (f : End) → d.partner z ≡ Some f → IsPairOf w l.channel before f a b
+
+  far-back : seen l.channel x ≡ turned (seen l.channel y)
+  far-back = sym (turned-twice (seen l.channel x)) ∙ ap turned (sym k.views)
+
+  of-x2 : (z a b : End) (before after : List Message) → x2 ≡ z → d.partner z ≡ Some y2 → LiesBehind (c.owed y) (c.owed x2) before a b after → WasPair z a b before after
+  of-x2 z a b before after i j h = record {
+    old = h.rest;
+    was = ap c.owed (sym i) ∙ h.behind;
+    fits = λ f n.
+        let q : y2 ≡ f = cc (j, n) in
+        let new : IsPairOf w l.channel (c.owed y ++ h.rest) y2 a b = far-pair w l.channel c x y x2 y2 (l.agree x x2 k.partner_x) (l.agree y y2 k.partner_y) k.views h.rest after a b h.behind (l.pairs.typed x2 a b x h.rest after h.behind back_x) in
+        subst (λ (u : End). IsPairOf w l.channel before u a b) q (subst (λ (ms : List Message). IsPairOf w l.channel ms y2 a b) (sym h.front) new);
+  }
+
+  of-y2 : (z a b : End) (before after : List Message) → y2 ≡ z → d.partner z ≡ Some x2 → LiesBehind (c.owed x) (c.owed y2) before a b after → WasPair z a b before after
+  of-y2 z a b before after i j h = record {
+    old = h.rest;
+    was = ap c.owed (sym i) ∙ h.behind;
+    fits = λ f n.
+        let q : x2 ≡ f = cc (j, n) in
+        let new : IsPairOf w l.channel (c.owed x ++ h.rest) x2 a b = far-pair w l.channel c y x y2 x2 (l.agree y y2 k.partner_y) (l.agree x x2 k.partner_x) far-back h.rest after a b h.behind (l.pairs.typed y2 a b y h.rest after h.behind back_y) in
+        subst (λ (u : End). IsPairOf w l.channel before u a b) q (subst (λ (ms : List Message). IsPairOf w l.channel ms x2 a b) (sym h.front) new);
+  }
+
+  was-pair : (z a b : End) (before after : List Message) → d.owed z ≡ before ++ (EndPair a b ∷ after) → WasPair z a b before after
+  was-pair z a b before after h = elim (s.ends z) [
+    | Left q j o ↦ absurd (not-empty (d.owed z) before a b after h o)
+    | FarX q j o ↦ of-x2 z a b before after q j (pair-behind (c.owed y) (c.owed x2) before a b after no-pair-y (sym o ∙ h))
+    | FarY q j o ↦ of-y2 z a b before after q j (pair-behind (c.owed x) (c.owed y2) before a b after no-pair-x (sym o ∙ h))
+    | Kept q j o ↦ record { old = before; was = sym o ∙ h; fits = λ f n. l.pairs.typed z a b f before after (sym o ∙ h) (sym j ∙ n) }
+  ]
+
+  pairs : AreLastPairs w d place2 l.channel
+  pairs = record {
+    different = λ z a b before after h. let q : WasPair z a b before after = was-pair z a b before after h in l.pairs.different z a b q.old after q.was;
+    last = λ z a b before after h. let q : WasPair z a b before after = was-pair z a b before after h in l.pairs.last z a b q.old after q.was;
+    given_up = λ z a b before after h.
+        let q : WasPair z a b before after = was-pair z a b before after h in
+        let g : (l.place z ≡ Gone) × (l.channel z ≡ None) = l.pairs.given_up z a b q.old after q.was in
+        (stays-gone p (l.place z) g.0, g.1);
+    typed = λ z a b f before after h n. let q : WasPair z a b before after = was-pair z a b before after h in q.fits f n;
+  }
+
+  -- Part 6
+
+  tells : TellsApart same_end
+  tells = record { is = same_end-is; own = same_end-refl }
+
+  -- the graph where each end but x and y still stands where it stood
+  abbrev between : Graph End Node
+  between = record { partner = d.partner; at = λ e. node_of (l.place e) e (c.owed e) }
+
+  first-forest : NoCycle between
+  first-forest = identity-forest (graph c l.place) between (Holder p) x y x2 y2 l.apart.placed.paired (record {
+    partner_x = k.partner_x;
+    partner_y = k.partner_y;
+    two_ends = k.two_ends;
+    two_channels = k.two_channels;
+    at_x = ap (λ (o : Place). node_of o x (c.owed x)) k.at_x;
+    at_y = ap (λ (o : Place). node_of o y (c.owed y)) k.at_y;
+    partners = s.partners;
+    others = λ e nx ny. refl;
+  }) l.apart.forest
+
+  nowhere : (e : End) (ms : List Message) → owes_pair ms ≡ false → node_of Gone e ms ≡ None
+  nowhere e ms i = rw i refl
+
+  stands : (e : End) (o : Place) → l.place e ≡ o → (node_of (forgets p o) e (d.owed e) ≡ node_of o e (c.owed e)) ⊎ (node_of (forgets p o) e (d.owed e) ≡ None)
+  stands e (In z) i = inl refl
+  stands e Gone i = elim (owes-pair e) [
+    | inl q ↦ inr (nowhere e (d.owed e) q)
+    | inr q ↦ inl (ap (λ (t : Bool). if t then Some (Pair e) else None) q)
+  ]
+  stands e (At who) i = elim (split (same_who p who)) [
+    | inl q ↦
+        let z : l.place e ≡ At p = i ∙ ap At (sym (same_who-is p who q)) in
+        let none : owes_pair (d.owed e) ≡ false = elim (owes-pair e) [ inl u ↦ u | inr u ↦ u ∙ no-pair e z ] in
+        inr (rw q (nowhere e (d.owed e) none))
+    | inr q ↦ inl (rw q refl)
+  ]
+
+  forest : NoCycle (graph d place2)
+  forest = gives-up-forest same_end tells between (graph d place2) (record { partners = refl; others = λ e. stands e (l.place e) refl }) first-forest
+
+  -- Part 7
+
+  named : IsNamed d
+  named = record {
+    paths = λ q v r t i j. l.apart.named.paths q v r t (old-node (Process q) (Runs r) i).1 (old-node (Process v) t j).1;
+    channels = λ q r e i j. l.apart.named.channels q r e (old-node (Process q) (Runs r) i).1 (was-joined e j);
+  }
+
+  -- All parts
+
+  pub linked-lawful : Lawful source d
+  linked-lawful = record {
+    accepted = l.accepted;
+    channel = l.channel;
+    place = place2;
+    nodes = l.nodes;
+    listed = λ who t i. l.listed who t (old-node who t i).1;
+    ends = l.ends;
+    joined = λ e j. l.joined e (was-joined e j);
+    has_type = λ q e (r, z, i, f). l.has_type q e (r, z, (old-node (Process q) (Runs r) i).1, f);
+    apart = record { placed = placed; forest = forest; named = named };
+    given_up = given-up;
+    typed = λ q r i. l.typed q r (old-node (Process q) (Runs r) i).1;
+    agree = agree;
+    pairs = pairs;
+    phases = λ n t i. l.phases n t (old-node (Service n) (Serves t) i).1;
+  }

@@ -1,0 +1,82 @@
+-- How often names stand in headers, and the parts in which they do.
+use Rattle.std.proofs.Common.{◌≡◌, refl, sym, ap, subst, ℕ, zero, suc, ◌+◌, ◌≤◌, arith, Bool, true, false, not, ◌||◌, if◌then◌else◌, List, [], ◌∷◌, true≢false}
+use Rattle.std.specs.List.{AllByRecursion}
+use Rattle.campl_plug.specs.Links.{IsPart, IsWithin}
+use Rattle.campl_tree.specs.declared.place.Ident.{Ident}
+use Rattle.campl_tree.specs.Plain.Process.{Link, Header, Parts, no_parts, part_then}
+use Rattle.campl_types.specs.Names.{Name, same_name, is_among, are_distinct}
+use Rattle.campl_types.specs.World.{names_of}
+use Rattle.campl_types.specs.Headers.{times, times_in, times_out, one_if, link_names, count}
+use Rattle.campl_types.proofs.Names.{same-is, same-itself}
+use Rattle.campl_peel.specs.Numbered.{one_up, number_of, outputs_in, inputs_in, joined_parts}
+use Rattle.campl_types.proofs.Truth.{and-first, and-second, or-first, or-second, or-none, not-true}
+
+pub among-some : (n : Name) (xs : List Ident) → is_among n (names_of xs) ≡ true → 1 ≤ times n xs
+among-some n [] i = absurd (true≢false (sym i))
+among-some n (x ∷ xs) i = go (same_name n x.name) refl i (among-some n xs)
+  where
+    go : (b : Bool) → same_name n x.name ≡ b → (b || is_among n (names_of xs)) ≡ true → (is_among n (names_of xs) ≡ true → 1 ≤ times n xs) → 1 ≤ one_if (same_name n x.name) + times n xs
+    go true e j later = let k : one_if (same_name n x.name) ≡ 1 = ap one_if e in omega (arith, k)
+    go false e j later = let k : 1 ≤ times n xs = later j in omega (arith, k)
+
+pub among-none : (n : Name) (xs : List Ident) → is_among n (names_of xs) ≡ false → times n xs ≡ 0
+among-none n [] i = refl
+among-none n (x ∷ xs) i =
+    let m = or-none (same_name n x.name) (is_among n (names_of xs)) i in
+    let e : one_if (same_name n x.name) ≡ 0 = ap one_if m.0 in
+    let h : times n xs ≡ 0 = among-none n xs m.1 in
+    omega (arith, e, h)
+
+pub at-most-once : (n : Name) (xs : List Ident) → are_distinct (names_of xs) ≡ true → times n xs ≤ 1
+at-most-once n [] d = omega arith
+at-most-once n (x ∷ xs) d = go (same_name n x.name) refl (at-most-once n xs (and-second (not (is_among x.name (names_of xs))) (are_distinct (names_of xs)) d))
+  where
+    other : is_among x.name (names_of xs) ≡ false
+    other = not-true (is_among x.name (names_of xs)) (and-first (not (is_among x.name (names_of xs))) (are_distinct (names_of xs)) d)
+
+    go : (b : Bool) → same_name n x.name ≡ b → times n xs ≤ 1 → one_if (same_name n x.name) + times n xs ≤ 1
+    go true e h =
+        let k : one_if (same_name n x.name) ≡ 1 = ap one_if e in
+        let l : times n xs ≡ 0 = among-none n xs (subst (λ z. is_among z (names_of xs) ≡ false) (sym (same-is n x.name e)) other) in
+        omega (arith, k, l)
+    go false e h = let k : one_if (same_name n x.name) ≡ 0 = ap one_if e in omega (arith, k, h)
+
+-- the sum of what each header weighs
+abbrev pub weight : (Header → ℕ) → Parts → ℕ
+weight f no_parts = 0
+weight f (part_then h body parts) = f h + weight f parts
+
+-- how often a name stands on one side
+abbrev pub on : (Header → List Ident) → Name → Parts → ℕ
+on side x parts = weight (λ h. times x (side h)) parts
+
+pub on-out : (x : Name) (parts : Parts) → times_out x parts ≡ on outputs_in x parts
+on-out x no_parts = refl
+on-out x (part_then h body parts) = ap (λ n. times x h.outputs + n) (on-out x parts)
+
+pub on-in : (x : Name) (parts : Parts) → times_in x parts ≡ on inputs_in x parts
+on-in x no_parts = refl
+on-in x (part_then h body parts) = ap (λ n. times x h.inputs + n) (on-in x parts)
+
+-- a name that stands on this side stands in a part of the plug
+pub numbered : (side : Header → List Ident) (x : Name) (parts : Parts) → 1 ≤ on side x parts → IsPart (count parts) (number_of side x parts)
+numbered side x no_parts some = absurd (omega (arith, some))
+numbered side x (part_then h body parts) some = go (is_among x (names_of (side h))) refl (numbered side x parts)
+  where
+    next : (n : ℕ) → IsPart (count parts) n → IsPart (count (part_then h body parts)) (one_up n)
+    next zero i = absurd (let low : 1 ≤ 0 = i.low in omega (arith, low))
+    next (suc n) i = record { low = omega arith; high = let high : suc n ≤ count parts = i.high in omega (arith, high) }
+
+    go : (b : Bool) → is_among x (names_of (side h)) ≡ b → (1 ≤ on side x parts → IsPart (count parts) (number_of side x parts)) → IsPart (count (part_then h body parts)) (if b then 1 else one_up (number_of side x parts))
+    go true e later = record { low = omega arith; high = omega arith }
+    go false e later = let z : times x (side h) ≡ 0 = among-none x (side h) e in next (number_of side x parts) (later (omega (arith, z, some)))
+
+-- links that stand on both sides join parts
+pub joined-within : (parts : Parts) (links : List Link) → ((x : Name) → is_among x (link_names links) ≡ true → (1 ≤ on outputs_in x parts) × (1 ≤ on inputs_in x parts))
+    → AllByRecursion (IsWithin (count parts)) (joined_parts links parts)
+joined-within parts [] h = tt
+joined-within parts (l ∷ ls) h =
+    let m = h l.name.name (or-first (same_name l.name.name l.name.name) (is_among l.name.name (link_names ls)) (same-itself l.name.name)) in (
+      record { a_part = numbered outputs_in l.name.name parts m.0; b_part = numbered inputs_in l.name.name parts m.1 },
+      joined-within parts ls (λ x i. h x (or-second (same_name x l.name.name) (is_among x (link_names ls)) i)),
+    )

@@ -1,0 +1,14 @@
+mod E30s
+mod E40
+mod E41
+mod E42
+mod E43
+mod E44
+mod E45
+mod E46
+mod E47
+mod E48
+mod E49
+mod E50
+mod E51
+mod Sources
