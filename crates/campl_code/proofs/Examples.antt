@@ -12,7 +12,8 @@ use Rattle.campl_evaluation.specs.Evaluation.{Done, Wrong, value_of}
 use Rattle.campl_code.specs.Decisions.{Decision, Row}
 use Rattle.campl_code.specs.Instructions.{Instr, Block, Code}
 use Rattle.campl_code.specs.Instructions as i
-use Rattle.campl_code.specs.Machine.{run, frame_at, Gave, Pauses, Outcome}
+use Rattle.campl_code.specs.Runs.{run, Gave, Pauses, Outcome}
+use Rattle.campl_code.specs.Frames.{frame_at}
 use Rattle.campl_code.specs.Rules.{first_fault}
 use Rattle.campl_code.specs.Generated.{function_code, code_of_all, functions_code}
 

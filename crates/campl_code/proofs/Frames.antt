@@ -8,7 +8,7 @@ use Rattle.campl_types.specs.Names.{Name, same_name, found}
 use Rattle.campl_types.specs.Matching.{Bindings}
 use Rattle.campl_code.specs.Decisions.{Decision, in_order}
 use Rattle.campl_code.specs.Instructions.{Instr, Block}
-use Rattle.campl_code.specs.Machine.{greatest, named, named_in, frame_size, frame_of, set_from}
+use Rattle.campl_code.specs.Frames.{greatest, named, named_in, frame_size, frame_of, set_from}
 use Rattle.campl_code.specs.Numbers.{Numbers, numbered, Spares, Agrees, Framed}
 use Rattle.campl_code.proofs.Bound.{name_order, same-length}
 

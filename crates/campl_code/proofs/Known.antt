@@ -20,7 +20,7 @@ use Rattle.campl_types.specs.Sequential.{Way, Found, Checked, HasType, PartsHave
 use Rattle.campl_types.specs.Typed.{IsTyped}
 use Rattle.campl_types.specs.World.{World, ConstructorEntry, OfData, OfProtocol, OfCoprotocol, constructor_named, number_in, world_of}
 use Rattle.campl_code.specs.Stands.{count, functions_of}
-use Rattle.campl_code.specs.Generated.{behind, IsKnown, AreKnown, RowsAreKnown, FunctionRowsKnown, FunctionsKnown}
+use Rattle.campl_code.specs.Needs.{behind, IsKnown, AreKnown, RowsAreKnown, FunctionRowsKnown, FunctionsKnown}
 
 abbrev pub var_names : Vars → List Name
 var_names [] = []

@@ -10,7 +10,8 @@ use Rattle.campl_code.specs.Instructions as i
 use Rattle.campl_code.specs.Numbers.{Numbers, numbered}
 use Rattle.campl_code.specs.Stands.{count}
 use Rattle.campl_code.specs.Forward.{AllAbove, Ahead, AllAhead}
-use Rattle.campl_code.specs.Generated.{cases_in, last, past, leave, two_code, conses_code, tested_code, code_of, code_of_all, code_of_rows, places_of, function_rows_code, function_places, loads_code, function_code, function_block, function_blocks, cases_in_function}
+use Rattle.campl_code.specs.CaseDecisions.{cases_in, cases_in_function}
+use Rattle.campl_code.specs.Generated.{last, past, leave, two_code, conses_code, tested_code, code_of, code_of_all, code_of_rows, places_of, function_rows_code, function_places, loads_code, function_code, function_block, function_blocks}
 use Rattle.campl_code.proofs.Standing.{rows_length, past_length, loads_length}
 
 pub ahead_append : (x y : List Instr) (p : ℕ) → AllAhead p x → AllAhead (p + length x) y → AllAhead p (x ++ y)

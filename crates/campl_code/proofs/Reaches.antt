@@ -5,7 +5,10 @@ use Rattle.std.proofs.lemmas.List.{append-nil, reverse-reverse}
 use Rattle.campl_value.specs.Tree.{Tree, depth_of}
 use Rattle.campl_value.specs.declared.value.TheConstants.{MAX_DEPTH}
 use Rattle.campl_evaluation.specs.Evaluation.{Answer, Done, Deep, Wrong, More, and_then, given, made}
-use Rattle.campl_code.specs.Machine.{Frame, Break, TooDeep, Faulty, Result, Value, Broken, perhaps, fitting, popped, Outcome, Broke, Pauses}
+use Rattle.campl_code.specs.Frames.{Frame}
+use Rattle.campl_code.specs.Results.{Break, TooDeep, Faulty, Result, Value, Broken, perhaps, fitting}
+use Rattle.campl_code.specs.Machine.{popped}
+use Rattle.campl_code.specs.Runs.{Outcome, Broke, Pauses}
 
 -- A run from `start`, with m calls left, comes to `goal` with the value that the answer has, or ends as the answer says.
 abbrev pub Reaches : {A : Type 0} → (ℕ → Outcome) → ℕ → (A → List Tree → Type 0) → (A → List Tree → ℕ → ℕ → Outcome) → Answer A → Type 0

@@ -3,7 +3,9 @@ use Rattle.std.proofs.Common.{◌≡◌, ◌∙◌, refl, sym, ap, subst, arith,
 use Rattle.campl_value.specs.Tree.{Tree}
 use Rattle.campl_evaluation.specs.Evaluation.{Answer}
 use Rattle.campl_code.specs.Instructions.{Code}
-use Rattle.campl_code.specs.Machine.{Frame, Next, Goes, Enters, Gives, Breaks, step, Outcome, Gave, Broke, Pauses, Short, goes_on, run, Says, Follows, IsOver}
+use Rattle.campl_code.specs.Frames.{Frame}
+use Rattle.campl_code.specs.Machine.{Next, Goes, Enters, Gives, Breaks, step}
+use Rattle.campl_code.specs.Runs.{Outcome, Gave, Broke, Pauses, Short, goes_on, run, Says, Follows, IsOver}
 
 -- a run that is over ends alike, however many instructions it may make
 pub settled : (code : Code) (j k : ℕ) (f : Frame) (fs : List Frame) (m : ℕ) → IsOver (run code j f fs m) → IsOver (run code k f fs m) → run code j f fs m ≡ run code k f fs m

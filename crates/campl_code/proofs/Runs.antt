@@ -19,7 +19,10 @@ use Rattle.campl_evaluation.specs.Evaluation.{Answer, Done, Deep, Wrong, More, a
 use Rattle.campl_code.specs.Decisions.{StandsForRows, in_order, row_names}
 use Rattle.campl_code.specs.Instructions.{Operation, Instr, Block, Code, blocks}
 use Rattle.campl_code.specs.Instructions as i
-use Rattle.campl_code.specs.Machine.{Frame, Result, Value, perhaps, fitting, calculates, compares, appends, negates, codes, chars, Goes, Enters, pushes, builds, fetch, is_return, is_empty, below, entry, enters, enters_with, act, Outcome, Gave, goes_on, run, frame_size, frame_of, set_from, code_at, Says, Follows, Arrives, gives, is_command}
+use Rattle.campl_code.specs.Frames.{Frame, frame_size, frame_of, set_from}
+use Rattle.campl_code.specs.Results.{Result, Value, perhaps, fitting, calculates, compares, appends, negates, codes, chars}
+use Rattle.campl_code.specs.Machine.{Goes, Enters, pushes, builds, fetch, is_return, is_empty, below, entry, enters, enters_with, act, code_at, gives, is_command}
+use Rattle.campl_code.specs.Runs.{Outcome, Gave, goes_on, run, Says, Follows, Arrives}
 use Rattle.campl_code.specs.Numbers.{Numbers, numbered, Framed}
 use Rattle.campl_code.specs.Stands.{functions_of, count, End, To, Ret, Jumps, here, by_jump, ends, at_end, stands, all_stand, rows_stand, is_called, loads, function_rows_stand, StandsForFunction, FunctionsStand}
 use Rattle.campl_code.proofs.Bound.{name_order, found-row, row-bound, one-names, patterns-names, some-same}

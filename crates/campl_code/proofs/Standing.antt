@@ -12,7 +12,9 @@ use Rattle.campl_code.specs.Instructions.{Operation, Instr, Block, Code}
 use Rattle.campl_code.specs.Instructions as i
 use Rattle.campl_code.specs.Numbers.{Numbers, numbered, Spares, names, AllBelow}
 use Rattle.campl_code.specs.Stands.{functions_of, count, End, To, Ret, Jumps, here, by_jump, ends, at_end, conses, tested, stands, all_stand, rows_stand, loads, function_rows_stand, StandsForFunction, FunctionsStand}
-use Rattle.campl_code.specs.Generated.{or_zero, function_number, cases_in, last, past, leave, two_code, conses_code, tested_code, code_of, code_of_all, code_of_rows, places_of, behind, IsKnown, AreKnown, RowsAreKnown, Decided, AllDecided, RowsDecided, function_rows_code, function_places, loads_code, function_code, function_block, function_blocks, cases_in_function, FunctionRowsKnown, FunctionRowsDecided, FunctionDecided, FunctionsDecided, FunctionsKnown}
+use Rattle.campl_code.specs.Generated.{or_zero, function_number, last, past, leave, two_code, conses_code, tested_code, code_of, code_of_all, code_of_rows, places_of, function_rows_code, function_places, loads_code, function_code, function_block, function_blocks}
+use Rattle.campl_code.specs.CaseDecisions.{cases_in, cases_in_function}
+use Rattle.campl_code.specs.Needs.{behind, IsKnown, AreKnown, RowsAreKnown, Decided, AllDecided, RowsDecided, FunctionRowsKnown, FunctionRowsDecided, FunctionDecided, FunctionsDecided, FunctionsKnown}
 
 -- Places
 

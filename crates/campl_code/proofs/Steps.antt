@@ -11,7 +11,10 @@ use Rattle.campl_evaluation.specs.Evaluation.{Answer, Done, Deep, given, made, t
 use Rattle.campl_code.specs.Decisions.{Decision, StandsForRows, in_order, row_names}
 use Rattle.campl_code.specs.Instructions.{Operation, Instr, Block, Code, blocks}
 use Rattle.campl_code.specs.Instructions as i
-use Rattle.campl_code.specs.Machine.{Frame, Break, TooDeep, Faulty, Result, Value, Broken, Goes, Breaks, popped, pushes, code_at, is_return, goes_to, to_row, decides, matches, returns, act, does, Outcome, Broke, Going, goes_on, run, frame_size, set_from, reach, greatest, named_in}
+use Rattle.campl_code.specs.Frames.{Frame, frame_size, set_from, reach, greatest, named_in}
+use Rattle.campl_code.specs.Results.{Break, TooDeep, Faulty, Result, Value, Broken}
+use Rattle.campl_code.specs.Machine.{Goes, Breaks, popped, pushes, code_at, is_return, goes_to, to_row, decides, matches, returns, act, does}
+use Rattle.campl_code.specs.Runs.{Outcome, Broke, Going, goes_on, run}
 use Rattle.campl_code.specs.Numbers.{Numbers, Framed}
 use Rattle.campl_code.specs.Stands.{End, To, Ret, Jumps, here, by_jump, ends, at_end, conses, tested}
 use Rattle.campl_code.proofs.Frames.{named-at, greatest-at, map-at, max-right}

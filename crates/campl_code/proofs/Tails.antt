@@ -4,7 +4,8 @@ use Rattle.std.specs.Prelude.{◌&&◌, slice_get}
 use Rattle.campl_value.specs.Tree.{Tree}
 use Rattle.campl_code.specs.Instructions.{Block, Code}
 use Rattle.campl_code.specs.Instructions as i
-use Rattle.campl_code.specs.Machine.{Frame, Enters, popped, does, enters, enters_with, entry, fetch, is_return, step}
+use Rattle.campl_code.specs.Frames.{Frame}
+use Rattle.campl_code.specs.Machine.{Enters, popped, does, enters, enters_with, entry, fetch, is_return, step}
 
 pub tail-call : (code : Code) (f : Frame) (fs : List Frame) (g : ℕ) (b : Block) (args : List Tree) → fetch code f ≡ Some (i.Call g) → slice_get code.functions g ≡ Some b → popped b.variables [] f.stack ≡ Some (args, [])
     → is_return (fetch code (record f { at = f.at + 1; stack = [] })) ≡ true → step code f fs ≡ Enters (entry code g b args) fs

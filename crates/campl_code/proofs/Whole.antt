@@ -9,7 +9,9 @@ use Rattle.campl_types.specs.World.{World, world_of}
 use Rattle.campl_code.specs.Decisions.{Decision}
 use Rattle.campl_code.specs.Compiled.{decision_for}
 use Rattle.campl_code.specs.Stands.{functions_of, FunctionsStand}
-use Rattle.campl_code.specs.Generated.{cases_in, cases_in_all, cases_in_rows, cases_in_function_rows, cases_in_function, Decided, AllDecided, RowsDecided, FunctionRowsDecided, FunctionDecided, FunctionsDecided, decisions_of, decisions_of_all, decisions_of_rows, decisions_of_function_rows, decisions_of_function, decisions_of_functions, functions_code}
+use Rattle.campl_code.specs.CaseDecisions.{cases_in, cases_in_all, cases_in_rows, cases_in_function_rows, cases_in_function, decisions_of, decisions_of_all, decisions_of_rows, decisions_of_function_rows, decisions_of_function, decisions_of_functions}
+use Rattle.campl_code.specs.Needs.{Decided, AllDecided, RowsDecided, FunctionRowsDecided, FunctionDecided, FunctionsDecided}
+use Rattle.campl_code.specs.Generated.{functions_code}
 use Rattle.campl_code.proofs.Flattened.{decision-stands}
 use Rattle.campl_code.proofs.Standing.{HasAt, has_front, has_back, has_all, functions_stand}
 use Rattle.campl_code.proofs.Known.{source-known}

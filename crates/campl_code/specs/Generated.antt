@@ -1,20 +1,17 @@
 -- The code that is generated for expressions and functions, as a function.
-use Rattle.std.specs.Prelude.{◌≡◌, ℕ, zero, suc, ◌+◌, Bool, true, false, List, [], ◌∷◌, ◌++◌, Option, Some, None, if◌then◌else◌, slice_get, length, option_map}
+use Rattle.std.specs.Prelude.{ℕ, zero, suc, ◌+◌, Bool, true, false, List, [], ◌∷◌, ◌++◌, Option, Some, None, if◌then◌else◌, length, option_map}
 use Rattle.campl_tree.specs.Plain.Expr as e
 use Rattle.campl_tree.specs.Plain.Expr.{Expr, Exprs, ExprRows}
 use Rattle.campl_tree.specs.Plain.Decl.{FunctionDecl, FunctionRow, Data, Protocol, Coprotocol, Function, Process}
-use Rattle.campl_types.specs.Forms.{Form}
-use Rattle.campl_types.specs.Names.{Name, same_name, found, is_among}
-use Rattle.campl_types.specs.World.{World, function_named}
+use Rattle.campl_types.specs.Names.{Name, same_name, found}
+use Rattle.campl_types.specs.World.{World}
 use Rattle.campl_types.specs.Matching.{number_of}
 use Rattle.campl_types.specs.Patterns.{bound_in, bound_in_all}
-use Rattle.campl_types.specs.Sequential.{expr_rows, function_rows}
-use Rattle.campl_code.specs.Decisions.{Decision, StandsForRows}
 use Rattle.campl_code.specs.Instructions.{Operation, Instr, Block, Code}
 use Rattle.campl_code.specs.Instructions as i
 use Rattle.campl_code.specs.Numbers.{Numbers, numbered}
 use Rattle.campl_code.specs.Stands.{count, functions_of}
-use Rattle.campl_code.specs.Compiled.{decision_for}
+use Rattle.campl_code.specs.CaseDecisions.{cases_in, cases_in_function, decisions_of_functions}
 
 abbrev pub or_zero : Option ℕ → ℕ
 or_zero (Some n) = n
@@ -28,47 +25,6 @@ function_number (Data d ∷ ds) x = function_number ds x
 function_number (Protocol d ∷ ds) x = function_number ds x
 function_number (Coprotocol d ∷ ds) x = function_number ds x
 function_number (Process d ∷ ds) x = function_number ds x
-
--- How many decisions an expression takes: one for each `case`
-
-abbrev mutual
-  pub cases_in : Expr → ℕ
-  cases_in (e.Number at x) = 0
-  cases_in (e.Character at x) = 0
-  cases_in (e.Text at x) = 0
-  cases_in (e.True at) = 0
-  cases_in (e.False at) = 0
-  cases_in (e.Variable at x) = 0
-  cases_in (e.List at items) = cases_in_all items
-  cases_in (e.Cons at a b) = cases_in a + cases_in b
-  cases_in (e.Append at a b) = cases_in a + cases_in b
-  cases_in (e.Pair at a b) = cases_in a + cases_in b
-  cases_in (e.Compare at a op b) = cases_in a + cases_in b
-  cases_in (e.Calculate at a op b) = cases_in a + cases_in b
-  cases_in (e.And at a b) = cases_in a + cases_in b
-  cases_in (e.Or at a b) = cases_in a + cases_in b
-  cases_in (e.Negate at a) = cases_in a
-  cases_in (e.CodeOf at a) = cases_in a
-  cases_in (e.CharOf at a) = cases_in a
-  cases_in (e.If at a b c) = cases_in a + cases_in b + cases_in c
-  cases_in (e.Call at x args) = cases_in_all args
-  cases_in (e.Constructor at x args) = cases_in_all args
-  cases_in (e.Case at a rows) = cases_in a + 1 + cases_in_rows rows
-
-  pub cases_in_all : Exprs → ℕ
-  cases_in_all e.no_exprs = 0
-  cases_in_all (e.expr_then a rest) = cases_in a + cases_in_all rest
-
-  pub cases_in_rows : ExprRows → ℕ
-  cases_in_rows e.no_expr_rows = 0
-  cases_in_rows (e.expr_row_then p a rows) = cases_in a + cases_in_rows rows
-
-abbrev pub cases_in_function_rows : List FunctionRow → ℕ
-cases_in_function_rows [] = 0
-cases_in_function_rows (r ∷ rows) = cases_in r.value + cases_in_function_rows rows
-
-abbrev pub cases_in_function : FunctionDecl → ℕ
-cases_in_function f = 1 + cases_in_function_rows f.rows
 
 -- Instructions. With `tail`, the code ends by a return, and else it goes on behind itself.
 
@@ -197,147 +153,6 @@ function_block w f dec = record { name = f.name.name; variables = length f.param
 abbrev pub function_blocks : World → List FunctionDecl → (dec : ℕ) → List Block
 function_blocks w [] dec = []
 function_blocks w (f ∷ fs) dec = function_block w f dec ∷ function_blocks w fs (dec + cases_in_function f)
-
--- Decisions, from a number on, stand for the rows of the cases in order
-
-abbrev pub decided : World → List Decision → ℕ → List (List Form) → ℕ → Type 0
-decided w ds dec rows n = (d : Decision) × (slice_get ds dec ≡ Some d) × StandsForRows w d rows n
-
--- What an expression needs: known variables, functions and constructors, and as many arguments as a function takes
-
-abbrev pub behind : List Name → List Name → List Name
-behind [] names = names
-behind (x ∷ xs) names = behind xs (x ∷ names)
-
-abbrev mutual
-  pub IsKnown : World → List Name → Expr → Type 0
-  IsKnown w names (e.Number at x) = Unit {0}
-  IsKnown w names (e.Character at x) = Unit {0}
-  IsKnown w names (e.Text at x) = Unit {0}
-  IsKnown w names (e.True at) = Unit {0}
-  IsKnown w names (e.False at) = Unit {0}
-  IsKnown w names (e.Variable at x) = is_among x names ≡ true
-  IsKnown w names (e.List at items) = AreKnown w names items
-  IsKnown w names (e.Cons at a b) = IsKnown w names a × IsKnown w names b
-  IsKnown w names (e.Append at a b) = IsKnown w names a × IsKnown w names b
-  IsKnown w names (e.Pair at a b) = IsKnown w names a × IsKnown w names b
-  IsKnown w names (e.Compare at a op b) = IsKnown w names a × IsKnown w names b
-  IsKnown w names (e.Calculate at a op b) = IsKnown w names a × IsKnown w names b
-  IsKnown w names (e.And at a b) = IsKnown w names a × IsKnown w names b
-  IsKnown w names (e.Or at a b) = IsKnown w names a × IsKnown w names b
-  IsKnown w names (e.Negate at a) = IsKnown w names a
-  IsKnown w names (e.CodeOf at a) = IsKnown w names a
-  IsKnown w names (e.CharOf at a) = IsKnown w names a
-  IsKnown w names (e.If at a b c) = IsKnown w names a × IsKnown w names b × IsKnown w names c
-  IsKnown w names (e.Call at x args) = (f : FunctionDecl) × (function_named w x ≡ Some f) × (length f.parameters ≡ count args) × AreKnown w names args
-  IsKnown w names (e.Constructor at x args) = (k : ℕ) × (number_of w x ≡ Some k) × AreKnown w names args
-  IsKnown w names (e.Case at a rows) = IsKnown w names a × RowsAreKnown w names rows
-
-  pub AreKnown : World → List Name → Exprs → Type 0
-  AreKnown w names e.no_exprs = Unit {0}
-  AreKnown w names (e.expr_then a rest) = IsKnown w names a × AreKnown w names rest
-
-  pub RowsAreKnown : World → List Name → ExprRows → Type 0
-  RowsAreKnown w names e.no_expr_rows = Unit {0}
-  RowsAreKnown w names (e.expr_row_then p a rows) = IsKnown w (behind (bound_in p) names) a × RowsAreKnown w names rows
-
--- the decisions from a number on stand for the cases of an expression, in order
-abbrev mutual
-  pub Decided : World → List Decision → ℕ → Expr → Type 0
-  Decided w ds dec (e.Number at x) = Unit {0}
-  Decided w ds dec (e.Character at x) = Unit {0}
-  Decided w ds dec (e.Text at x) = Unit {0}
-  Decided w ds dec (e.True at) = Unit {0}
-  Decided w ds dec (e.False at) = Unit {0}
-  Decided w ds dec (e.Variable at x) = Unit {0}
-  Decided w ds dec (e.List at items) = AllDecided w ds dec items
-  Decided w ds dec (e.Cons at a b) = Decided w ds dec a × Decided w ds (dec + cases_in a) b
-  Decided w ds dec (e.Append at a b) = Decided w ds dec a × Decided w ds (dec + cases_in a) b
-  Decided w ds dec (e.Pair at a b) = Decided w ds dec a × Decided w ds (dec + cases_in a) b
-  Decided w ds dec (e.Compare at a op b) = Decided w ds dec a × Decided w ds (dec + cases_in a) b
-  Decided w ds dec (e.Calculate at a op b) = Decided w ds dec a × Decided w ds (dec + cases_in a) b
-  Decided w ds dec (e.And at a b) = Decided w ds dec a × Decided w ds (dec + cases_in a) b
-  Decided w ds dec (e.Or at a b) = Decided w ds dec a × Decided w ds (dec + cases_in a) b
-  Decided w ds dec (e.Negate at a) = Decided w ds dec a
-  Decided w ds dec (e.CodeOf at a) = Decided w ds dec a
-  Decided w ds dec (e.CharOf at a) = Decided w ds dec a
-  Decided w ds dec (e.If at a b c) = Decided w ds dec a × Decided w ds (dec + cases_in a) b × Decided w ds (dec + cases_in a + cases_in b) c
-  Decided w ds dec (e.Call at x args) = AllDecided w ds dec args
-  Decided w ds dec (e.Constructor at x args) = AllDecided w ds dec args
-  Decided w ds dec (e.Case at a rows) =
-      Decided w ds dec a × decided w ds (dec + cases_in a) (expr_rows rows) 1 × RowsDecided w ds (dec + cases_in a + 1) rows
-
-  pub AllDecided : World → List Decision → ℕ → Exprs → Type 0
-  AllDecided w ds dec e.no_exprs = Unit {0}
-  AllDecided w ds dec (e.expr_then a rest) = Decided w ds dec a × AllDecided w ds (dec + cases_in a) rest
-
-  pub RowsDecided : World → List Decision → ℕ → ExprRows → Type 0
-  RowsDecided w ds dec e.no_expr_rows = Unit {0}
-  RowsDecided w ds dec (e.expr_row_then p a rows) = Decided w ds dec a × RowsDecided w ds (dec + cases_in a) rows
-
-abbrev pub FunctionRowsKnown : World → List FunctionRow → Type 0
-FunctionRowsKnown w [] = Unit {0}
-FunctionRowsKnown w (r ∷ rows) = IsKnown w (behind (bound_in_all r.patterns) []) r.value × FunctionRowsKnown w rows
-
-abbrev pub FunctionRowsDecided : World → List Decision → ℕ → List FunctionRow → Type 0
-FunctionRowsDecided w ds dec [] = Unit {0}
-FunctionRowsDecided w ds dec (r ∷ rows) = Decided w ds dec r.value × FunctionRowsDecided w ds (dec + cases_in r.value) rows
-
-abbrev pub FunctionDecided : World → List Decision → ℕ → FunctionDecl → Type 0
-FunctionDecided w ds dec f = decided w ds dec (function_rows f.rows) (length f.parameters) × FunctionRowsDecided w ds (dec + 1) f.rows
-
-abbrev pub FunctionsDecided : World → List Decision → ℕ → List FunctionDecl → Type 0
-FunctionsDecided w ds dec [] = Unit {0}
-FunctionsDecided w ds dec (f ∷ fs) = FunctionDecided w ds dec f × FunctionsDecided w ds (dec + cases_in_function f) fs
-
-abbrev pub FunctionsKnown : World → List FunctionDecl → Type 0
-FunctionsKnown w [] = Unit {0}
-FunctionsKnown w (f ∷ fs) = FunctionRowsKnown w f.rows × FunctionsKnown w fs
-
--- The decisions themselves, in the order of the cases
-
-abbrev mutual
-  pub decisions_of : World → Expr → List Decision
-  decisions_of w (e.Number at x) = []
-  decisions_of w (e.Character at x) = []
-  decisions_of w (e.Text at x) = []
-  decisions_of w (e.True at) = []
-  decisions_of w (e.False at) = []
-  decisions_of w (e.Variable at x) = []
-  decisions_of w (e.List at items) = decisions_of_all w items
-  decisions_of w (e.Cons at a b) = decisions_of w a ++ decisions_of w b
-  decisions_of w (e.Append at a b) = decisions_of w a ++ decisions_of w b
-  decisions_of w (e.Pair at a b) = decisions_of w a ++ decisions_of w b
-  decisions_of w (e.Compare at a op b) = decisions_of w a ++ decisions_of w b
-  decisions_of w (e.Calculate at a op b) = decisions_of w a ++ decisions_of w b
-  decisions_of w (e.And at a b) = decisions_of w a ++ decisions_of w b
-  decisions_of w (e.Or at a b) = decisions_of w a ++ decisions_of w b
-  decisions_of w (e.Negate at a) = decisions_of w a
-  decisions_of w (e.CodeOf at a) = decisions_of w a
-  decisions_of w (e.CharOf at a) = decisions_of w a
-  decisions_of w (e.If at a b c) = decisions_of w a ++ (decisions_of w b ++ decisions_of w c)
-  decisions_of w (e.Call at x args) = decisions_of_all w args
-  decisions_of w (e.Constructor at x args) = decisions_of_all w args
-  decisions_of w (e.Case at a rows) = decisions_of w a ++ (decision_for w 1 (expr_rows rows) ∷ decisions_of_rows w rows)
-
-  pub decisions_of_all : World → Exprs → List Decision
-  decisions_of_all w e.no_exprs = []
-  decisions_of_all w (e.expr_then a rest) = decisions_of w a ++ decisions_of_all w rest
-
-  pub decisions_of_rows : World → ExprRows → List Decision
-  decisions_of_rows w e.no_expr_rows = []
-  decisions_of_rows w (e.expr_row_then p a rows) = decisions_of w a ++ decisions_of_rows w rows
-
-abbrev pub decisions_of_function_rows : World → List FunctionRow → List Decision
-decisions_of_function_rows w [] = []
-decisions_of_function_rows w (r ∷ rows) = decisions_of w r.value ++ decisions_of_function_rows w rows
-
-abbrev pub decisions_of_function : World → FunctionDecl → List Decision
-decisions_of_function w f = decision_for w (length f.parameters) (function_rows f.rows) ∷ decisions_of_function_rows w f.rows
-
-abbrev pub decisions_of_functions : World → List FunctionDecl → List Decision
-decisions_of_functions w [] = []
-decisions_of_functions w (f ∷ fs) = decisions_of_function w f ++ decisions_of_functions w fs
 
 -- the code of a source's functions
 abbrev pub functions_code : World → Code

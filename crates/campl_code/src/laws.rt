@@ -14,7 +14,9 @@ ghost use Rattle.campl_code.specs.Forward.{AllAhead};
 ghost use Rattle.campl_code.specs.Generated.{functions_code};
 ghost use Rattle.campl_code.specs.Instructions as i;
 ghost use Rattle.campl_code.specs.Instructions.{Instr, Block, Code, blocks};
-ghost use Rattle.campl_code.specs.Machine.{Frame, Follows, IsOver, Pauses, Says, Enters, entry, fetch, frame_at, frame_size, is_command, is_return, popped, run, step};
+ghost use Rattle.campl_code.specs.Frames.{Frame, frame_at, frame_size};
+ghost use Rattle.campl_code.specs.Runs.{Follows, IsOver, Pauses, Says, run};
+ghost use Rattle.campl_code.specs.Machine.{Enters, entry, fetch, is_command, is_return, popped, step};
 ghost use Rattle.campl_code.specs.Numbers.{Numbers, Framed};
 ghost use Rattle.campl_code.specs.Stands.{all_stand, FunctionsStand};
 

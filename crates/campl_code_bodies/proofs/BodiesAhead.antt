@@ -13,10 +13,12 @@ use Rattle.campl_code.specs.Forward.{Ahead, AllAhead, IsForward}
 use Rattle.campl_code.specs.Instructions.{Instr, Block}
 use Rattle.campl_code.specs.Numbers.{Numbers, numbered}
 use Rattle.campl_code.specs.Stands.{functions_of}
-use Rattle.campl_code.specs.Generated.{cases_in, code_of, code_of_all, function_blocks, decisions_of_functions}
+use Rattle.campl_code.specs.CaseDecisions.{cases_in, decisions_of_functions}
+use Rattle.campl_code.specs.Generated.{code_of, code_of_all, function_blocks}
 use Rattle.campl_code.proofs.Onward.{ahead_append, code_ahead, all_ahead, functions_ahead}
 use Rattle.campl_code_bodies.specs.Bodies.{Channels, without, binds, processes_of}
-use Rattle.campl_code_bodies.specs.BodyCode.{Maker, hcase_made, race_made, case_made, link_name, link_code, peels_made, body_made, process_made, process_block, process_blocks, source_code}
+use Rattle.campl_code_bodies.specs.BodyCode.{Maker, hcase_made, race_made, case_made, link_name, link_code, peels_made, body_made}
+use Rattle.campl_code_bodies.specs.SourceCode.{process_made, process_block, process_blocks, code_within}
 
 module _ (w : World) where
   abbrev Onward : Maker → Type 0
@@ -103,7 +105,7 @@ module _ (w : World) where
   append-ahead (x ∷ xs) ys h k zero c at = h 0 c at
   append-ahead (x ∷ xs) ys h k (suc g) c at = append-ahead xs ys (λ g c. h (suc g) c) k g c at
 
-  pub source-ahead : (n : ℕ) → IsForward (source_code w n)
+  pub source-ahead : (n : ℕ) → IsForward (code_within w n)
   source-ahead n =
       append-ahead (function_blocks w (functions_of w) 0) (process_blocks w n (processes_of w) (length (decisions_of_functions w (functions_of w))))
       (λ g c. functions_ahead w (functions_of w) 0 g c) (processes-ahead n (processes_of w) (length (decisions_of_functions w (functions_of w))))

@@ -26,12 +26,15 @@ use Rattle.campl_code.specs.Instructions as i
 use Rattle.campl_code.specs.Numbers.{Numbers, numbered, names, AllBelow}
 use Rattle.campl_code.specs.Compiled.{decision_for}
 use Rattle.campl_code.specs.Stands.{here, all_stand}
-use Rattle.campl_code.specs.Generated.{or_zero, cases_in, code_of, code_of_all, decisions_of, IsKnown}
+use Rattle.campl_code.specs.Generated.{or_zero, code_of, code_of_all}
+use Rattle.campl_code.specs.CaseDecisions.{cases_in, decisions_of}
+use Rattle.campl_code.specs.Needs.{IsKnown}
 use Rattle.campl_code.proofs.Standing.{HasAt, has_front, has_back, code_stands, all_of_stand, below-spares, below-more, below-numbered}
 use Rattle.campl_code.proofs.Flattened.{decision-stands}
 use Rattle.campl_code.proofs.Whole.{many, decided, decided_all}
 use Rattle.campl_code_bodies.specs.Bodies.{Channels, without, IsSpare, only, are_numbered, binds, receives_at, processes_of, StandsBody, put, get, hput, split, close, halt, halt_at, hcase, fork, plug, race, case, link, link_neg, go, StandsHcase, no_rows, row, StandsRace, no_branches, branch as race_row, StandsCases, no_cases, case_row, StandsPeels, last, peel}
-use Rattle.campl_code_bodies.specs.BodyCode.{Made, number, all_numbers, process_number, hcase_made, hcase_starts, start_of, listed, count_hcase, race_made, race_starts, case_made, case_starts, link_name, peels_made, body_made, AreHeld, HcaseNeeds, RaceNeeds, CaseNeeds, PeelsNeed, BodyNeeds}
+use Rattle.campl_code_bodies.specs.BodyCode.{Made, number, all_numbers, process_number, hcase_made, hcase_starts, start_of, listed, count_hcase, race_made, race_starts, case_made, case_starts, link_name, peels_made, body_made}
+use Rattle.campl_code_bodies.specs.BodyNeeds.{AreHeld, HcaseNeeds, RaceNeeds, CaseNeeds, PeelsNeed, BodyNeeds}
 
 -- Numbers
 

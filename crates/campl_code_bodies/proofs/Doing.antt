@@ -34,7 +34,9 @@ use Rattle.campl_meaning.specs.Wants.{with_answer, next_command, term_command, p
 use Rattle.campl_code.specs.Decisions.{Decision, StandsForRows, chosen, in_order, row_names}
 use Rattle.campl_code.specs.Instructions.{Instr, Block, Code, blocks}
 use Rattle.campl_code.specs.Instructions as i
-use Rattle.campl_code.specs.Machine.{Outcome, Gave, IsOver, Arrives, is_command, run, frame_size, frame_of, set_from, reach, greatest, named, named_in}
+use Rattle.campl_code.specs.Runs.{Outcome, Gave, IsOver, Arrives, run}
+use Rattle.campl_code.specs.Machine.{is_command}
+use Rattle.campl_code.specs.Frames.{frame_size, frame_of, set_from, reach, greatest, named, named_in}
 use Rattle.campl_code.specs.Numbers.{Numbers, numbered, Framed}
 use Rattle.campl_code.specs.Stands.{count, all_stand}
 use Rattle.campl_code.proofs.Bound.{name_order, found-row, row-bound, one-names, some-same}

@@ -5,7 +5,8 @@ use Rattle.campl_types.specs.World.{World}
 use Rattle.campl_meaning.specs.States.{Running}
 use Rattle.campl_meaning.specs.Wants.{term_command}
 use Rattle.campl_code.specs.Instructions.{Code}
-use Rattle.campl_code.specs.Machine.{Frame, Outcome, Gave, Broke, Pauses, Short, IsOver, run, frame_at}
+use Rattle.campl_code.specs.Frames.{Frame, frame_at}
+use Rattle.campl_code.specs.Runs.{Outcome, Gave, Broke, Pauses, Short, IsOver, run}
 use Rattle.campl_code.proofs.Resume.{settled, continues}
 use Rattle.campl_code_bodies.specs.Bodies.{StandsFor}
 use Rattle.campl_code_bodies.specs.Commands.{Cell, wanted, run_of}

@@ -5,7 +5,7 @@ use Rattle.campl_types.specs.World.{World}
 use Rattle.campl_meaning.specs.States.{Runs, Serves}
 use Rattle.campl_meaning.specs.Reductions.{Configuration, Event, reduce}
 use Rattle.campl_code.specs.Instructions.{Code}
-use Rattle.campl_code.specs.Machine.{frame_at}
+use Rattle.campl_code.specs.Frames.{frame_at}
 use Rattle.campl_code.proofs.Resume.{settled}
 use Rattle.campl_code_bodies.specs.Bodies.{StandsFor}
 use Rattle.campl_code_bodies.specs.Commands.{CodeState, RunsCode, Beside, wanted}

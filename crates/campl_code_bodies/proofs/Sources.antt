@@ -9,12 +9,13 @@ use Rattle.campl_types.specs.World.{World, world_of}
 use Rattle.campl_code.specs.Instructions.{Block, Code}
 use Rattle.campl_code.specs.Numbers.{Numbers, AllBelow}
 use Rattle.campl_code.specs.Stands.{functions_of}
-use Rattle.campl_code.specs.Generated.{decisions_of_functions}
+use Rattle.campl_code.specs.CaseDecisions.{decisions_of_functions}
 use Rattle.campl_code.proofs.Standing.{HasAt, has_front, has_back, has_all, functions_stand}
 use Rattle.campl_code.proofs.Known.{source-known}
 use Rattle.campl_code.proofs.Whole.{decided_functions}
 use Rattle.campl_code_bodies.specs.Bodies.{binds, parameter_numbers, channel_numbers, processes_of, StandsFor, StandsForProcess}
-use Rattle.campl_code_bodies.specs.BodyCode.{process_made, process_block, process_blocks, process_decisions, source_code, first_channels, ProcessesNeed, ProcessNeeds}
+use Rattle.campl_code_bodies.specs.SourceCode.{process_made, process_block, process_blocks, process_decisions, code_within, first_channels}
+use Rattle.campl_code_bodies.specs.BodyNeeds.{ProcessesNeed, ProcessNeeds}
 use Rattle.campl_code_bodies.proofs.BodyStands.{body-stands}
 
 below-append : (n : ℕ) (ns ms : Numbers) → AllBelow n ns → AllBelow n ms → AllBelow n (ns ++ ms)
@@ -55,10 +56,10 @@ processes-stand w all n (p ∷ ds) dec need h (suc g) d at =
     let made = process_made w n p dec in
     processes-stand w all n ds (dec + length made.decisions) need.1 (has_back all.decisions dec made.decisions (process_decisions w n ds (dec + length made.decisions)) h) g d at
 
-pub source-stands : (source : Program) → IsTyped source → (n : ℕ) → ProcessesNeed (world_of source) n (processes_of (world_of source)) → StandsFor (world_of source) (source_code (world_of source) n)
+pub source-stands : (source : Program) → IsTyped source → (n : ℕ) → ProcessesNeed (world_of source) n (processes_of (world_of source)) → StandsFor (world_of source) (code_within (world_of source) n)
 source-stands source t n need =
     let w = world_of source in
-    let all = source_code w n in
+    let all = code_within w n in
     let ds = decisions_of_functions w (functions_of w) in
     let rest = process_decisions w n (processes_of w) (length ds) in
     let h : HasAt all.decisions 0 (ds ++ rest) = has_all (ds ++ rest) in

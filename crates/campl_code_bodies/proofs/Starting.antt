@@ -14,7 +14,7 @@ use Rattle.campl_service.specs.Scripts.{Lines}
 use Rattle.campl_meaning.specs.Start.{near, holding, attending, running, start}
 use Rattle.campl_peel.specs.Terms.{Doing}
 use Rattle.campl_code.specs.Instructions.{Code, Block}
-use Rattle.campl_code.specs.Machine.{frame_of, frame_size}
+use Rattle.campl_code.specs.Frames.{frame_of, frame_size}
 use Rattle.campl_code.specs.Numbers.{Framed}
 use Rattle.campl_code.proofs.Frames.{frame-length}
 use Rattle.campl_code_bodies.specs.Bodies.{channel_numbers, parameter_numbers, StandsForProcess}

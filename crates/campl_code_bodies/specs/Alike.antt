@@ -6,7 +6,7 @@ use Rattle.campl_types.specs.World.{World}
 use Rattle.campl_meaning.specs.States.{Message, State, Runs, Serves, Running, Attending, Command}
 use Rattle.campl_meaning.specs.States as k
 use Rattle.campl_code.specs.Instructions.{Block, Code, blocks}
-use Rattle.campl_code.specs.Machine.{frame_size}
+use Rattle.campl_code.specs.Frames.{frame_size}
 use Rattle.campl_code.specs.Numbers.{Numbers, Framed}
 use Rattle.campl_code_bodies.specs.Bodies.{Channels, StandsTerm}
 use Rattle.campl_code_bodies.specs.Commands.{Ends, Cell, CodeState, RunsCode, Beside, CodeCommand}

@@ -1,28 +1,27 @@
 -- The code that is generated for processes, as a function. A plug's parts are laid out in the order of their peels, which
 -- isn't the order in the tree: so the recursion is on a number that is at least the body's size.
-use Rattle.std.specs.Prelude.{◌≡◌, ℕ, zero, suc, ◌+◌, ◌<◌, ◌≤◌, Bool, true, false, not, max, List, [], ◌∷◌, ◌++◌, Option, Some, None, if◌then◌else◌, length, option_map}
+use Rattle.std.specs.Prelude.{ℕ, zero, suc, ◌+◌, Bool, true, false, not, max, List, [], ◌∷◌, ◌++◌, Option, Some, None, if◌then◌else◌, length, option_map}
 use Rattle.campl_tree.specs.declared.place.Ident.{Ident}
 use Rattle.campl_tree.specs.Plain.Process as b
 use Rattle.campl_tree.specs.Plain.Process.{Body, HcaseRows, Branches, CaseRows, Parts, Link, Header}
-use Rattle.campl_tree.specs.Plain.Decl.{ProcessDecl, Data, Protocol, Coprotocol, Function, Process}
+use Rattle.campl_tree.specs.Plain.Decl.{Data, Protocol, Coprotocol, Function, Process}
 use Rattle.campl_types.specs.Names.{Name, same_name, found}
-use Rattle.campl_types.specs.World.{World, process_named}
+use Rattle.campl_types.specs.World.{World}
 use Rattle.campl_types.specs.Matching.{number_of, is_number}
 use Rattle.campl_types.specs.Patterns.{bound_in}
 use Rattle.campl_types.specs.Free.{is_free}
-use Rattle.campl_types.specs.Linear.{body_rows, receives_on}
+use Rattle.campl_types.specs.Linear.{body_rows}
 use Rattle.campl_peel.specs.Numbered.{last_first}
 use Rattle.campl_peel.specs.Plugging.{stands_in, side_in, links_to, without_link}
 use Rattle.campl_peel.specs.Terms.{those}
-use Rattle.campl_types.specs.Matching.{row_picked}
 use Rattle.campl_code.specs.Decisions.{Decision}
 use Rattle.campl_code.specs.Instructions.{Instr, Block, Code}
 use Rattle.campl_code.specs.Instructions as i
-use Rattle.campl_code.specs.Numbers.{Numbers, numbered, names}
+use Rattle.campl_code.specs.Numbers.{Numbers, numbered}
 use Rattle.campl_code.specs.Compiled.{decision_for}
-use Rattle.campl_code.specs.Stands.{count, functions_of}
-use Rattle.campl_code.specs.Generated.{or_zero, cases_in, code_of, code_of_all, decisions_of, decisions_of_all, decisions_of_functions, function_blocks, IsKnown, AreKnown}
-use Rattle.campl_code_bodies.specs.Bodies.{Channels, without, binds, processes_of, has_two, parameter_numbers, channel_numbers}
+use Rattle.campl_code.specs.Generated.{or_zero, code_of, code_of_all}
+use Rattle.campl_code.specs.CaseDecisions.{cases_in, decisions_of, decisions_of_all}
+use Rattle.campl_code_bodies.specs.Bodies.{Channels, without, binds}
 
 pub record Made : Type 0 where
   pub code : List Instr
@@ -166,143 +165,3 @@ command_made w make (b.Call at x args inputs outputs) base dec free ns next cs =
 abbrev pub body_made : World → ℕ → Maker
 body_made w zero = λ body base dec free ns next cs. alone [] []
 body_made w (suc n) = command_made w (body_made w n)
-
--- What a body needs, as far as n commands deep
-
-abbrev pub IsHeld : Name → Channels → Type 0
-IsHeld x cs = (n : ℕ) × (found x cs ≡ Some n)
-
-abbrev pub AreHeld : List Ident → Channels → Type 0
-AreHeld [] cs = Unit {0}
-AreHeld (x ∷ xs) cs = IsHeld x.name cs × AreHeld xs cs
-
-abbrev pub Need : Type 1
-Need = Body → (free : ℕ) → Numbers → (next : ℕ) → Channels → Type 0
-
--- each row's constructor has a number of its own
-abbrev pub HcaseNeeds : World → Need → ℕ → HcaseRows → (free : ℕ) → Numbers → (next : ℕ) → Channels → Type 0
-HcaseNeeds w need most b.no_hcase_rows free ns next cs = Unit {0}
-HcaseNeeds w need most (b.hcase_row_then k body rows) free ns next cs =
-    (m : ℕ) × (number_of w k.name ≡ Some m) × (m < most) × (row_picked w m rows ≡ None) × need body free ns next cs × HcaseNeeds w need most rows free ns next cs
-
-abbrev pub RaceNeeds : Need → Branches → (free : ℕ) → Numbers → (next : ℕ) → Channels → Type 0
-RaceNeeds need b.no_branches free ns next cs = Unit {0}
-RaceNeeds need (b.branch_then x body rows) free ns next cs =
-    IsHeld x.name cs × (receives_on x.name body ≡ true) × need body free ns next cs × RaceNeeds need rows free ns next cs
-
-abbrev pub CaseNeeds : Need → CaseRows → (free : ℕ) → Numbers → (next : ℕ) → Channels → Type 0
-CaseNeeds need b.no_case_rows free ns next cs = Unit {0}
-CaseNeeds need (b.case_row_then q body rows) free ns next cs =
-    need body (free + length (bound_in q)) (numbered free (bound_in q) ns) next cs × CaseNeeds need rows free ns next cs
-
-abbrev pub PeelsNeed : Need → List Link → Parts → (free : ℕ) → Numbers → (next : ℕ) → Channels → Type 0
-PeelsNeed need links b.no_parts free ns next cs = ⊥
-PeelsNeed need links (b.part_then h body b.no_parts) free ns next cs = need body free ns next cs
-PeelsNeed need links (b.part_then h body (b.part_then g c parts)) free ns next cs =
-    (l : Link) × (more : List Link) × (links_to (b.part_then g c parts) h links ≡ l ∷ more)
-    × PeelsNeed need (without_link l.name.name links) (b.part_then g c parts) free ns (suc next) ((l.name.name, next) ∷ those (λ x. not (stands_in h x)) cs)
-    × need body free ns (suc next) ((l.name.name, next) ∷ those (stands_in h) cs)
-
-abbrev pub CommandNeeds : World → Need → Body → (free : ℕ) → Numbers → (next : ℕ) → Channels → Type 0
-CommandNeeds w need (b.Then (b.Put at a x) rest) free ns next cs = IsKnown w (names ns) a × IsHeld x.name cs × need rest free ns next cs
-CommandNeeds w need (b.Then (b.Get at v x) rest) free ns next cs = IsHeld x.name cs × need rest (suc free) (binds v free ns) next cs
-CommandNeeds w need (b.Then (b.Hput at k x) rest) free ns next cs = (m : ℕ) × (number_of w k.name ≡ Some m) × IsHeld x.name cs × need rest free ns next cs
-CommandNeeds w need (b.Then (b.Split at x y z) rest) free ns next cs =
-    IsHeld x.name cs × need rest free ns (suc (suc next)) ((z.name, suc next) ∷ (y.name, next) ∷ without x.name cs)
-CommandNeeds w need (b.Then (b.Close at x) rest) free ns next cs = IsHeld x.name cs × need rest free ns next (without x.name cs)
-CommandNeeds w need (b.Halt at None) free ns next cs = Unit {0}
-CommandNeeds w need (b.Halt at (Some x)) free ns next cs = IsHeld x.name cs
-CommandNeeds w need (b.Hcase at x rows) free ns next cs =
-    IsHeld x.name cs × ((m : ℕ) → row_picked w m rows ≡ None → count_hcase w rows ≤ m) × HcaseNeeds w need (count_hcase w rows) rows free ns next cs
-CommandNeeds w need (b.Fork at x y left z right) free ns next cs =
-    IsHeld x.name cs × need left free ns (suc (suc next)) ((y.name, next) ∷ those (λ c. is_free c left) (without x.name cs))
-    × need right free ns (suc (suc next)) ((z.name, suc next) ∷ those (λ c. not (is_free c left)) (without x.name cs))
-CommandNeeds w need (b.Plug at links parts) free ns next cs = (has_two (last_first links parts) ≡ true) × PeelsNeed need links (last_first links parts) free ns next cs
-CommandNeeds w need (b.Race at rows) free ns next cs = RaceNeeds need rows free ns next cs
-CommandNeeds w need (b.Case at a rows) free ns next cs = IsKnown w (names ns) a × CaseNeeds need rows free ns next cs
-CommandNeeds w need (b.Identity at x negated y) free ns next cs = IsHeld x cs × IsHeld y.name cs
-CommandNeeds w need (b.Call at x args inputs outputs) free ns next cs =
-    (d : ProcessDecl) × (process_named w x ≡ Some d) × (length d.row.variables ≡ count args) × (length d.row.inputs ≡ length inputs) × (length d.row.outputs ≡ length outputs)
-    × AreKnown w (names ns) args × AreHeld inputs cs × AreHeld outputs cs
-
-abbrev pub BodyNeeds : World → ℕ → Body → (free : ℕ) → Numbers → (next : ℕ) → Channels → Type 0
-BodyNeeds w zero body free ns next cs = ⊥
-BodyNeeds w (suc n) body free ns next cs = CommandNeeds w (BodyNeeds w n) body free ns next cs
-
--- Processes
-
-abbrev pub first_channels : ProcessDecl → Channels
-first_channels d = channel_numbers 0 d.row.inputs ++ channel_numbers (length d.row.inputs) d.row.outputs
-
-abbrev pub process_made : World → ℕ → ProcessDecl → (dec : ℕ) → Made
-process_made w n d dec =
-    body_made w n d.row.body 0 dec (length d.row.variables) (parameter_numbers 0 d.row.variables) (length d.row.inputs + length d.row.outputs) (first_channels d)
-
-abbrev pub process_block : World → ℕ → ProcessDecl → (dec : ℕ) → Block
-process_block w n d dec = record {
-  name = d.name.name;
-  variables = length d.row.variables;
-  inputs = length d.row.inputs;
-  outputs = length d.row.outputs;
-  code = (process_made w n d dec).code;
-}
-
-abbrev pub process_blocks : World → ℕ → List ProcessDecl → (dec : ℕ) → List Block
-process_blocks w n [] dec = []
-process_blocks w n (d ∷ ds) dec = process_block w n d dec ∷ process_blocks w n ds (dec + length (process_made w n d dec).decisions)
-
-abbrev pub process_decisions : World → ℕ → List ProcessDecl → (dec : ℕ) → List Decision
-process_decisions w n [] dec = []
-process_decisions w n (d ∷ ds) dec =
-    (process_made w n d dec).decisions ++ process_decisions w n ds (dec + length (process_made w n d dec).decisions)
-
--- the code of a source whose bodies are fewer than n commands deep
-abbrev pub source_code : World → ℕ → Code
-source_code w n =
-    let ds = decisions_of_functions w (functions_of w) in
-    record {
-      functions = function_blocks w (functions_of w) 0;
-      processes = process_blocks w n (processes_of w) (length ds);
-      decisions = ds ++ process_decisions w n (processes_of w) (length ds);
-    }
-
-abbrev pub ProcessNeeds : World → ℕ → ProcessDecl → Type 0
-ProcessNeeds w n d = BodyNeeds w n d.row.body (length d.row.variables) (parameter_numbers 0 d.row.variables) (length d.row.inputs + length d.row.outputs) (first_channels d)
-
-abbrev pub ProcessesNeed : World → ℕ → List ProcessDecl → Type 0
-ProcessesNeed w n [] = Unit {0}
-ProcessesNeed w n (d ∷ ds) = ProcessNeeds w n d × ProcessesNeed w n ds
-
--- How large bodies are
-
-abbrev mutual
-  pub body_size : Body → ℕ
-  body_size (b.Then a rest) = suc (body_size rest)
-  body_size (b.Halt at x) = 1
-  body_size (b.Hcase at x rows) = suc (hcase_size rows)
-  body_size (b.Fork at x y left z right) = suc (body_size left + body_size right)
-  body_size (b.Plug at links parts) = suc (parts_size parts)
-  body_size (b.Race at rows) = suc (race_size rows)
-  body_size (b.Case at a rows) = suc (cases_size rows)
-  body_size (b.Identity at x negated y) = 1
-  body_size (b.Call at x args inputs outputs) = 1
-
-  pub hcase_size : HcaseRows → ℕ
-  hcase_size b.no_hcase_rows = 0
-  hcase_size (b.hcase_row_then k body rows) = body_size body + hcase_size rows
-
-  pub race_size : Branches → ℕ
-  race_size b.no_branches = 0
-  race_size (b.branch_then x body rows) = body_size body + race_size rows
-
-  pub cases_size : CaseRows → ℕ
-  cases_size b.no_case_rows = 0
-  cases_size (b.case_row_then p body rows) = body_size body + cases_size rows
-
-  pub parts_size : Parts → ℕ
-  parts_size b.no_parts = 0
-  parts_size (b.part_then h body parts) = body_size body + parts_size parts
-
-abbrev pub processes_size : List ProcessDecl → ℕ
-processes_size [] = 0
-processes_size (d ∷ ds) = body_size d.row.body + processes_size ds

@@ -10,7 +10,8 @@ use Rattle.campl_meaning.specs.Wants.{half_on}
 use Rattle.campl_code.specs.Decisions.{chosen}
 use Rattle.campl_code.specs.Instructions.{Instr, Block, Code, blocks}
 use Rattle.campl_code.specs.Instructions as i
-use Rattle.campl_code.specs.Machine.{Outcome, Gave, Broke, Pauses, Short, run, frame_at, frame_of, set_from}
+use Rattle.campl_code.specs.Runs.{Outcome, Gave, Broke, Pauses, Short, run}
+use Rattle.campl_code.specs.Frames.{frame_at, frame_of, set_from}
 use Rattle.campl_code_bodies.specs.Bodies.{receives_at}
 
 -- the ends of channels by their numbers; a channel that wasn't set has none

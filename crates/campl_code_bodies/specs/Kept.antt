@@ -4,7 +4,8 @@ use Rattle.campl_value.specs.Tree.{Tree}
 use Rattle.campl_machine.specs.Names.{Path}
 use Rattle.campl_meaning.specs.States as k
 use Rattle.campl_code.specs.Instructions.{Code, blocks}
-use Rattle.campl_code.specs.Machine.{Frame, Outcome, Gave, Broke, Pauses, Short, IsOver}
+use Rattle.campl_code.specs.Frames.{Frame}
+use Rattle.campl_code.specs.Runs.{Outcome, Gave, Broke, Pauses, Short, IsOver}
 use Rattle.campl_code_bodies.specs.Commands.{Cell, CodeCommand, command, in_block, quiet, spends, run_of}
 use Rattle.campl_machine.specs.Machine.{Breaks}
 use Rattle.std.specs.Prelude.{slice_get}

@@ -1,5 +1,5 @@
 -- A source's code as a program of the machine, beside the source itself.
-use Rattle.std.specs.Prelude.{◌≡◌, ℕ, ◌+◌, List, [], ◌∷◌, Option, Some, None, map, option_map, if◌then◌else◌, nat_lt, length}
+use Rattle.std.specs.Prelude.{◌≡◌, ℕ, ◌+◌, List, [], ◌∷◌, Option, Some, None, map, option_map, if◌then◌else◌, nat_lt, length, slice_get, codes}
 use Rattle.campl_machine.specs.Names.{End, Who, Process, Service, same_end, same_who}
 use Rattle.campl_machine.specs.Machine.{Config, Act, Moves, Looks, Links, Stands, Breaks, performs, update, both_ways}
 use Rattle.campl_types.specs.World.{World}
@@ -13,8 +13,10 @@ use Rattle.campl_types.specs.Run.{services_of}
 use Rattle.campl_service.specs.Scripts.{Lines}
 use Rattle.campl_code.specs.Instructions.{Code, Block}
 use Rattle.campl_code_bodies.specs.Commands.{Cell, CodeState, RunsCode, Beside, CodeCommand, command, wanted, run_of}
-use Rattle.campl_code.specs.Machine.{IsOver, frame_of}
+use Rattle.campl_code.specs.Runs.{IsOver}
+use Rattle.campl_code.specs.Frames.{frame_of}
 use Rattle.campl_code_bodies.specs.Alike.{StandsState, OptionAlike}
+use Rattle.campl_code_bodies.specs.BodyCode.{process_number}
 
 abbrev pub CodeConfiguration : Type 0
 CodeConfiguration = Config CodeState Message
@@ -146,3 +148,15 @@ code_start w code g b scripts = record {
   partner = update same_end (both_ways (wires 0 (services_of w))) (λ e. None);
   owed = λ e. [];
 }
+
+abbrev pub starts_in : World → Code → ℕ → Option Block → List Lines → Option CodeConfiguration
+starts_in w code g None scripts = None
+starts_in w code g (Some b) scripts = Some (code_start w code g b scripts)
+
+abbrev pub starts_at : World → Code → Option ℕ → List Lines → Option CodeConfiguration
+starts_at w code None scripts = None
+starts_at w code (Some g) scripts = starts_in w code g (slice_get code.processes g) scripts
+
+-- where the code begins, if it has a block for `run`
+abbrev pub code_begins : World → Code → List Lines → Option CodeConfiguration
+code_begins w code scripts = starts_at w code (process_number w (codes "run")) scripts

@@ -11,10 +11,12 @@ ghost use Rattle.campl_meaning.specs.Reductions.{Configuration, Event, reduce};
 ghost use Rattle.campl_meaning.specs.Start.{start};
 ghost use Rattle.campl_code.specs.Forward.{IsForward};
 ghost use Rattle.campl_code.specs.Instructions.{Block, Code};
-ghost use Rattle.campl_code.specs.Machine.{Frame, IsOver, run};
+ghost use Rattle.campl_code.specs.Frames.{Frame};
+ghost use Rattle.campl_code.specs.Runs.{IsOver, run};
 ghost use Rattle.campl_code_bodies.specs.Kept.{Kept, AtCall, IsKept, kept_command, kept_of, spent_more};
 ghost use Rattle.campl_code_bodies.specs.Bodies.{StandsFor, StandsForProcess, processes_of};
-ghost use Rattle.campl_code_bodies.specs.BodyCode.{ProcessesNeed, source_code};
+ghost use Rattle.campl_code_bodies.specs.BodyNeeds.{ProcessesNeed};
+ghost use Rattle.campl_code_bodies.specs.SourceCode.{code_within};
 ghost use Rattle.campl_code_bodies.specs.Commands.{Cell, wanted, run_of};
 ghost use Rattle.campl_code_bodies.specs.Alike.{CellStands, CommandsAlike};
 ghost use Rattle.campl_code_bodies.specs.Runs.{Steps, SourceGoes, CodeGoes};
@@ -51,9 +53,9 @@ pub fn law_start()
 /// The code that is generated for a typed source stands for it, where its processes' bodies have what they need; and any
 /// generated code jumps onward alone.
 pub fn law_generated()
-    ensures ahead { (w : World) (n : ℕ) → IsForward (source_code w n) }
+    ensures ahead { (w : World) (n : ℕ) → IsForward (code_within w n) }
     ensures stands { (source : Program) → IsTyped source → (n : ℕ) → ProcessesNeed (world_of source) n (processes_of (world_of source))
-        → StandsFor (world_of source) (source_code (world_of source) n) }
+        → StandsFor (world_of source) (code_within (world_of source) n) }
 {}
 
 /// What a cell keeps of its evaluation, its values, its break or its next call, tells what the process wants; and from a

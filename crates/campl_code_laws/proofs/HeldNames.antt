@@ -10,7 +10,7 @@ use Rattle.campl_types.specs.Held as typed
 use Rattle.campl_types.specs.Linear.{AreHanded}
 use Rattle.campl_peel.specs.Terms.{those}
 use Rattle.campl_code_bodies.specs.Bodies.{Channels, without}
-use Rattle.campl_code_bodies.specs.BodyCode.{IsHeld, AreHeld}
+use Rattle.campl_code_bodies.specs.BodyNeeds.{IsHeld, AreHeld}
 
 abbrev pub HeldAs : Held → Channels → Type 0
 HeldAs held cs = (x : Name) (ch : Channel) → held x ≡ Some ch → IsHeld x cs

@@ -34,13 +34,16 @@ use Rattle.campl_peel.specs.Trees.{PlugsAreTrees, RowsHaveTrees, BranchesHaveTre
 use Rattle.campl_peel.specs.Terms.{those}
 use Rattle.campl_peel.proofs.Steps.{plug-begins, count-kept, peeling-keeps-typing, last-part}
 use Rattle.campl_code.specs.Numbers.{Numbers, numbered, names}
-use Rattle.campl_code.specs.Generated.{behind, IsKnown, AreKnown, or_zero}
+use Rattle.campl_code.specs.Needs.{behind, IsKnown, AreKnown}
+use Rattle.campl_code.specs.Generated.{or_zero}
 use Rattle.campl_types.specs.Matching.{number_of}
 use Rattle.campl_code.proofs.Frames.{max-left, max-right}
 use Rattle.campl_code.proofs.Standing.{names-numbered}
 use Rattle.campl_code.proofs.Known.{var_names, names-append, fit-binds, typed-known, parts-known}
 use Rattle.campl_code_bodies.specs.Bodies.{Channels, without, binds, has_two}
-use Rattle.campl_code_bodies.specs.BodyCode.{IsHeld, HcaseNeeds, RaceNeeds, CaseNeeds, PeelsNeed, BodyNeeds, count_hcase, body_size, hcase_size, race_size, cases_size, parts_size}
+use Rattle.campl_code_bodies.specs.BodyNeeds.{IsHeld, HcaseNeeds, RaceNeeds, CaseNeeds, PeelsNeed, BodyNeeds}
+use Rattle.campl_code_bodies.specs.BodyCode.{count_hcase}
+use Rattle.campl_code_bodies.specs.BodySizes.{body_size, hcase_size, race_size, cases_size, parts_size}
 use Rattle.campl_types.proofs.Choices.{choices-of, AreChoices}
 use Rattle.campl_code_laws.proofs.HcaseRows.{placed, later-none, none-above}
 use Rattle.campl_code_laws.proofs.HeldNames.{HeldAs, held-again, held-without, held-new, held-only, held-kept, handed-held}
