@@ -85,7 +85,7 @@ other_kind = refl
 open_end : first_fault (alone (i.Close 0 ∷ [])) ≡ Some (0, 0)
 open_end = refl
 
--- What the small design and the first reading of the definitions allowed
+-- Code that does not stand for its expression
 
 abbrev running : List Instr → List Decision → Code
 running code ds = record { functions = []; processes = record { name = 9 ∷ []; variables = 0; inputs = 0; outputs = 0; code = code } ∷ []; decisions = ds }

@@ -55,7 +55,7 @@ pub fn law_decision()
 {}
 
 /// The code that is generated for the functions of a typed source stands for them, and jumps onward alone.
-pub fn law_generated()
+pub fn law_functions_code()
     ensures stands { (source : Program) → IsTyped source → FunctionsStand (world_of source) (functions_code (world_of source)) }
     ensures ahead { (w : World) (n : ℕ) (b : Block) → slice_get (functions_code w).functions n ≡ Some b → AllAhead 0 b.code }
 {}

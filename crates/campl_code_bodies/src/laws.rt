@@ -52,7 +52,7 @@ pub fn law_start()
 
 /// The code that is generated for a typed source stands for it, where its processes' bodies have what they need; and any
 /// generated code jumps onward alone.
-pub fn law_generated()
+pub fn law_bodies_code()
     ensures ahead { (w : World) (n : ℕ) → IsForward (code_within w n) }
     ensures stands { (source : Program) → IsTyped source → (n : ℕ) → ProcessesNeed (world_of source) n (processes_of (world_of source))
         → StandsFor (world_of source) (code_within (world_of source) n) }
