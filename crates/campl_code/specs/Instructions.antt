@@ -15,40 +15,47 @@ pub data Operation : Type 0 where
   CodeOf : Operation
   CharOf : Operation
 
--- V is a variable's number, E, A, B, C are channels', L is a place or a list of places, M a decision
+-- variables and channels are named by their numbers, blocks and decisions by theirs, and places are those of the block
 pub data Instr : Type 0 where
+  -- constants
   Int : ℤ → Instr
   Char : ℕ → Instr
   Truth : Bool → Instr
   Nil : Instr
   Text : List ℕ → Instr
-  Load : ℕ → Instr
+  Load : (variable : ℕ) → Instr
   Cons : Instr
   Pair : Instr
   -- a constructor's number and its number of parts
-  Build : ℕ → ℕ → Instr
+  Build : (number parts : ℕ) → Instr
   Op : Operation → Instr
-  Jump : ℕ → Instr
-  Unless : ℕ → Instr
-  Call : ℕ → Instr
-  -- the decision, the first variable that is set, and a place for each row
-  Match : ℕ → ℕ → List ℕ → Instr
+  Jump : (to : ℕ) → Instr
+  -- goes there where the top is False
+  Unless : (to : ℕ) → Instr
+  Call : (called : ℕ) → Instr
+  -- the row's variables are set from the first on, and each row has its place
+  Match : (decision first : ℕ) (places : List ℕ) → Instr
   Return : Instr
-  -- the instructions of a process
-  Case : ℕ → ℕ → List ℕ → Instr
-  Put : ℕ → Instr
-  Get : ℕ → ℕ → Instr
-  Pick : ℕ → ℕ → Instr
-  Split : ℕ → ℕ → ℕ → Instr
-  Close : ℕ → Instr
-  Offer : ℕ → List ℕ → Instr
-  Fork : ℕ → ℕ → ℕ → ℕ → Instr
-  Halt : Option ℕ → Instr
-  Link : ℕ → ℕ → Instr
-  LinkNeg : ℕ → ℕ → Instr
-  Peel : ℕ → Side → ℕ → Instr
-  Race : List ℕ → Instr
-  Go : ℕ → List ℕ → Instr
+  -- From here on the instructions of a process. The same as `Match`, as a step of its own
+  Case : (decision first : ℕ) (places : List ℕ) → Instr
+  Put : (channel : ℕ) → Instr
+  Get : (channel variable : ℕ) → Instr
+  Pick : (channel number : ℕ) → Instr
+  Split : (channel left right : ℕ) → Instr
+  Close : (channel : ℕ) → Instr
+  -- each constructor has its place
+  Offer : (channel : ℕ) (places : List ℕ) → Instr
+  -- goes on behind itself with the new channel, and the child begins at its place with its own
+  Fork : (channel own its : ℕ) (child : ℕ) → Instr
+  Halt : (channel : Option ℕ) → Instr
+  Link : (channel other : ℕ) → Instr
+  LinkNeg : (channel other : ℕ) → Instr
+  -- a new channel, of which the child has the half on this side
+  Peel : (channel : ℕ) → Side → (child : ℕ) → Instr
+  -- each branch has its place
+  Race : (places : List ℕ) → Instr
+  -- a process's number, and the channels for its inputs and then its outputs
+  Go : (called : ℕ) (channels : List ℕ) → Instr
 
 pub record Block : Type 0 where
   pub name : Name
