@@ -1,0 +1,4 @@
+pub mod HeldNames
+pub mod HcaseRows
+pub mod Needs
+pub mod Final
