@@ -1,6 +1,6 @@
 //! Reads a command line.
-ghost use Rattle.std.specs.Prelude.{◌≡◌, map, string_bytes, option_and_then, option_map};
-ghost use Rattle.campl_orders.specs.Orders.{check, code, migrate};
+ghost use Rattle.std.specs.Prelude.{◌≡◌, MatchOption, map, string_bytes, option_and_then, option_map};
+ghost use Rattle.campl_orders.specs.Orders.{IsOrder, PlainOrder, check, code, migrate};
 ghost use Rattle.campl_orders.specs.Reading.{gathered, generate_of, given, nothing, only_operand, order_of, ordered, read, run_of, stands, view};
 ghost use Rattle.campl_orders.specs.declared.reader.State.{State};
 
@@ -11,6 +11,15 @@ use crate::reader::Reader;
 
 /// What the words after the program's name order, where they order anything.
 pub fn read_words(words: &[String]) -> Option<Order<'_>>
+    ensures { MatchOption result
+        ((order : PlainOrder) → ¬ (IsOrder (map string_bytes words.now) order))
+        (λ order. IsOrder (map string_bytes words.now) (view order)) }
+{
+    read_order(words)
+}
+
+// The same, as it is computed.
+fn read_order(words: &[String]) -> Option<Order<'_>>
     ensures { option_map view result ≡ order_of (map string_bytes words.now) }
 {
     let Some((first, rest)) = words.split_first() else {
