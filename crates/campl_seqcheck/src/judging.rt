@@ -1,28 +1,29 @@
 //! Expressions judged.
-ghost use Rattle.std.specs.Prelude.{◌≡◌, ◌++◌, Some, OnOk, map};
-ghost use Rattle.campl_tree.specs.View.{view_seq, view_expr, exprs, view_expr_row, expr_rows, view_data, view_data_constructor, view_decl};
-ghost use Rattle.campl_names.specs.Filling.{view_filling};
+
+mod calls;
+mod cases;
+
+ghost use Rattle.std.specs.Prelude.{◌≡◌, map};
+ghost use Rattle.campl_tree.specs.Plain.Expr as e;
+ghost use Rattle.campl_tree.specs.Plain.SeqType as s;
+ghost use Rattle.campl_tree.specs.View.{view_seq, view_expr, exprs, view_decl};
 ghost use Rattle.campl_types.specs.Names.{found};
 ghost use Rattle.campl_vars.specs.Variables.{view_vars};
 ghost use Rattle.campl_seqcheck.specs.Answered.{IsVerdict, view_wanted};
 ghost use Rattle.campl_seqcheck.specs.Judged.{and_then, fine};
 ghost use Rattle.campl_seqcheck.specs.Judging as definition;
-ghost use Rattle.campl_seqcheck.specs.Steps.{judged, judged_each, judged_parts, judged_rows, judged_more, judged_items, judged_cons, judged_append, judged_pair, judged_if, judged_case, judged_compare, judged_two, judged_one, judged_call, judged_part, judged_row, judged_first_row, judged_data, parameters_of, result_of};
-ghost use Rattle.campl_tree.specs.Plain.SeqType as s;
-ghost use Rattle.campl_types.specs.Substitution.{filled};
-ghost use Rattle.campl_tree.specs.Plain.Expr as e;
+ghost use Rattle.campl_seqcheck.specs.Steps.{judged, judged_each, judged_items, judged_cons, judged_append, judged_pair, judged_if, judged_compare, judged_two, judged_one};
 
-use crate::callee::{Callee, all_bound, begun, found_so, function_named, result_of, types_of};
 use crate::fault::SeqFault;
-use crate::fitting::{counted, text_type, whole};
+use crate::fitting::text_type;
 use crate::meeting::{
     a_comparable, a_list, empty_list, meets, wanted_item, wanted_list, wanted_parts,
 };
-use crate::rows::{check_case_rows, pattern_variables};
-use campl_matching::is_known;
-use campl_names::{ConstructorRef, Filling, World};
-use campl_tree::{DataConstructor, DataDecl, Expr, ExprRow, Name, Place, SeqType};
+use calls::{judge_constructor, judge_function_call};
+use campl_names::World;
+use campl_tree::{Expr, Name, Place, SeqType};
 use campl_vars::Vars;
+use cases::judge_case;
 use sqlite_items::Boxed;
 use std::alloc::Global;
 
@@ -332,267 +333,6 @@ fn judge_each(
         judge(alloc, world, vars, &items[i], Some(t))?;
     }
     Ok(())
-}
-
-/// Judges `case a of` and its rows.
-#[cycle(judge)]
-fn judge_case(
-    alloc: Global,
-    world: &World,
-    vars: &mut Vars,
-    a: &Expr,
-    rows: &[ExprRow],
-    at: Place,
-    wanted: Option<&SeqType>,
-) -> Result<SeqType, SeqFault>
-    ensures judged { IsVerdict view_seq (judged_case at (map view_decl world.now) (view_vars vars.old) (view_expr a.now) (expr_rows (map view_expr_row rows.now)) (view_wanted wanted.entry)) result }
-    ensures kept { vars.new ≡ vars.old }
-{
-    let t = judge(alloc, world, vars, a, None)?;
-    check_case_rows(alloc, world, at, &t, rows)?;
-    judge_rows(alloc, world, vars, rows, at, &t, wanted)
-}
-
-/// Judges the values of rows: the first as is wanted, the others like it.
-#[cycle(judge)]
-fn judge_rows(
-    alloc: Global,
-    world: &World,
-    vars: &mut Vars,
-    rows: &[ExprRow],
-    at: Place,
-    t: &SeqType,
-    wanted: Option<&SeqType>,
-) -> Result<SeqType, SeqFault>
-    ensures judged { IsVerdict view_seq (judged_rows at (map view_decl world.now) (view_vars vars.old) (expr_rows (map view_expr_row rows.now)) (view_seq t.now) (view_wanted wanted.entry)) result }
-    ensures kept { vars.new ≡ vars.old }
-{
-    match rows.split_first() {
-        None => Err(SeqFault::NeedsType { place: at }),
-        Some((first, more)) => judge_first_row(alloc, world, vars, first, more, t, wanted),
-    }
-}
-
-/// Judges rows, of which the first tells the type of the others.
-#[cycle(judge)]
-fn judge_first_row(
-    alloc: Global,
-    world: &World,
-    vars: &mut Vars,
-    first: &ExprRow,
-    more: &[ExprRow],
-    t: &SeqType,
-    wanted: Option<&SeqType>,
-) -> Result<SeqType, SeqFault>
-    ensures judged { IsVerdict view_seq (judged_first_row (map view_decl world.now) (view_vars vars.old) (view_expr_row first.now) (expr_rows (map view_expr_row more.now)) (view_seq t.now) (view_wanted wanted.entry)) result }
-    ensures kept { vars.new ≡ vars.old }
-{
-    let u = judge_row(alloc, world, vars, first, t, wanted)?;
-    judge_more(alloc, world, vars, more, t, &u)?;
-    Ok(u)
-}
-
-/// Judges the values of rows against one type.
-#[cycle(judge)]
-fn judge_more(
-    alloc: Global,
-    world: &World,
-    vars: &mut Vars,
-    rows: &[ExprRow],
-    t: &SeqType,
-    u: &SeqType,
-) -> Result<(), SeqFault>
-    ensures judged { IsVerdict (λ _. fine) (judged_more (map view_decl world.now) (view_vars vars.old) (expr_rows (map view_expr_row rows.now)) (view_seq t.now) (view_seq u.now)) result }
-    ensures kept { vars.new ≡ vars.old }
-{
-    for i in 0..rows.len() {
-        judge_row(alloc, world, vars, &rows[i], t, Some(u))?;
-    }
-    Ok(())
-}
-
-/// Judges the value of a row, under the variables of its pattern too.
-#[cycle(judge)]
-fn judge_row(
-    alloc: Global,
-    world: &World,
-    vars: &mut Vars,
-    row: &ExprRow,
-    t: &SeqType,
-    wanted: Option<&SeqType>,
-) -> Result<SeqType, SeqFault>
-    ensures judged { IsVerdict view_seq (judged_row (map view_decl world.now) (view_vars vars.old) (view_expr_row row.now) (view_seq t.now) (view_wanted wanted.entry)) result }
-    ensures kept { vars.new ≡ vars.old }
-{
-    let own = pattern_variables(alloc, world, &row.pattern, t)?;
-    judge_under(alloc, world, vars, &row.value, &own, wanted)
-}
-
-/// Judges an expression under these variables too.
-#[cycle(judge)]
-fn judge_under(
-    alloc: Global,
-    world: &World,
-    vars: &mut Vars,
-    e: &Expr,
-    own: &Vars,
-    wanted: Option<&SeqType>,
-) -> Result<SeqType, SeqFault>
-    ensures judged { IsVerdict view_seq (judged (map view_decl world.now) (view_vars own.now ++ view_vars vars.old) (view_expr e.now) (view_wanted wanted.entry)) result }
-    ensures kept { vars.new ≡ vars.old }
-{
-    let mark = vars.len();
-    vars.append(alloc, own)?;
-    let verdict = judge(alloc, world, vars, e, wanted);
-    vars.truncate(mark);
-    verdict
-}
-
-/// Judges a call of a function.
-#[cycle(judge)]
-fn judge_function_call(
-    alloc: Global,
-    world: &World,
-    vars: &mut Vars,
-    args: &[Expr],
-    at: Place,
-    name: &Name,
-    wanted: Option<&SeqType>,
-) -> Result<SeqType, SeqFault>
-    ensures judged { IsVerdict view_seq (judged (map view_decl world.now) (view_vars vars.old) (e.Call at name.now (exprs (map view_expr args.now))) (view_wanted wanted.entry)) result }
-    ensures kept { vars.new ≡ vars.old }
-{
-    match function_named(world, name) {
-        Some(f) => judge_call(alloc, world, vars, args, at, &Callee::Function(f), wanted),
-        None => Err(SeqFault::NeedsType { place: at }),
-    }
-}
-
-/// Judges a constructor with its parts.
-#[cycle(judge)]
-fn judge_constructor(
-    alloc: Global,
-    world: &World,
-    vars: &mut Vars,
-    args: &[Expr],
-    at: Place,
-    name: &Name,
-    wanted: Option<&SeqType>,
-) -> Result<SeqType, SeqFault>
-    ensures judged { IsVerdict view_seq (judged (map view_decl world.now) (view_vars vars.old) (e.Constructor at name.now (exprs (map view_expr args.now))) (view_wanted wanted.entry)) result }
-    ensures kept { vars.new ≡ vars.old }
-{
-    match world.constructor_named(name) {
-        Some(ConstructorRef::Data(d, _, k)) => {
-            judge_data_constructor(alloc, world, vars, args, at, d, k, wanted)
-        }
-        Some(ConstructorRef::Protocol(_, _, _)) => Err(SeqFault::NeedsType { place: at }),
-        Some(ConstructorRef::Coprotocol(_, _, _)) => Err(SeqFault::NeedsType { place: at }),
-        None => Err(SeqFault::NeedsType { place: at }),
-    }
-}
-
-/// Judges a constructor of a data type with its parts.
-#[cycle(judge)]
-fn judge_data_constructor(
-    alloc: Global,
-    world: &World,
-    vars: &mut Vars,
-    args: &[Expr],
-    at: Place,
-    d: &DataDecl,
-    k: &DataConstructor,
-    wanted: Option<&SeqType>,
-) -> Result<SeqType, SeqFault>
-    ensures judged { IsVerdict view_seq (judged_data at (map view_decl world.now) (view_vars vars.old) (view_data d.now) (view_data_constructor k.now) (exprs (map view_expr args.now)) (view_wanted wanted.entry)) result }
-    ensures kept { vars.new ≡ vars.old }
-{
-    let own = whole(alloc, d)?;
-    judge_call(
-        alloc,
-        world,
-        vars,
-        args,
-        at,
-        &Callee::Constructor(&own, k),
-        wanted,
-    )
-}
-
-/// Judges a call: its number of parts, then the parts in order, and last what the call's type is.
-#[cycle(judge)]
-fn judge_call(
-    alloc: Global,
-    world: &World,
-    vars: &mut Vars,
-    args: &[Expr],
-    at: Place,
-    callee: &Callee<'_>,
-    wanted: Option<&SeqType>,
-) -> Result<SeqType, SeqFault>
-    ensures judged { IsVerdict view_seq (judged_call at (map view_decl world.now) (view_vars vars.old) callee.now (exprs (map view_expr args.now)) (view_wanted wanted.entry)) result }
-    ensures kept { vars.new ≡ vars.old }
-{
-    counted(at, args.len(), types_of(callee).len())?;
-    let mut filling = begun(alloc, at, callee, wanted)?;
-    judge_parts(alloc, world, vars, args, types_of(callee), &mut filling)?;
-    call_ends(alloc, at, callee, &filling, wanted)
-}
-
-/// Judges the parts of a call, one for each type, as long as there are both.
-#[cycle(judge)]
-fn judge_parts(
-    alloc: Global,
-    world: &World,
-    vars: &mut Vars,
-    args: &[Expr],
-    types: &[SeqType],
-    filling: &mut Filling,
-) -> Result<(), SeqFault>
-    ensures judged { IsVerdict (λ _. view_filling filling.new) (judged_parts (map view_decl world.now) (view_vars vars.old) (view_filling filling.old) (map view_seq types.now) (exprs (map view_expr args.now))) result }
-    ensures kept { vars.new ≡ vars.old }
-{
-    for i in 0..types.len().min(args.len()) {
-        judge_part(alloc, world, vars, &args[i], &types[i], filling)?;
-    }
-    Ok(())
-}
-
-/// Judges a part of a call, whose declared type tells it as far as its parameters are known.
-#[cycle(judge)]
-fn judge_part(
-    alloc: Global,
-    world: &World,
-    vars: &mut Vars,
-    a: &Expr,
-    t: &SeqType,
-    filling: &mut Filling,
-) -> Result<(), SeqFault>
-    ensures judged { IsVerdict (λ _. view_filling filling.new) (judged_part (map view_decl world.now) (view_vars vars.old) (view_filling filling.old) (view_seq t.now) (view_expr a.now)) result }
-    ensures kept { vars.new ≡ vars.old }
-{
-    if is_known(filling, t) {
-        let own = filling.filled(alloc, t)?;
-        judge(alloc, world, vars, a, Some(&own))?;
-        return Ok(());
-    }
-    let u = judge(alloc, world, vars, a, None)?;
-    found_so(alloc, a.place(), filling, t, &u)
-}
-
-/// The type of a call behind its parts.
-fn call_ends(
-    alloc: Global,
-    at: Place,
-    callee: &Callee<'_>,
-    filling: &Filling,
-    wanted: Option<&SeqType>,
-) -> Result<SeqType, SeqFault>
-    ensures { IsVerdict view_seq (and_then (definition.all_bound at (parameters_of callee.now) (view_filling filling.now)) (λ _. definition.meets at (view_wanted wanted.entry) (filled (view_filling filling.now) (result_of callee.now)))) result }
-{
-    all_bound(at, callee, filling)?;
-    let own = filling.filled(alloc, result_of(callee))?;
-    meets(alloc, at, wanted, own)
 }
 
 /// Judges a text.
