@@ -7,15 +7,20 @@ use Rattle.campl_tree.specs.Plain.Pattern as p
 use Rattle.campl_tree.specs.Plain.SeqType as s
 use Rattle.campl_tree.specs.Plain.Decl.{FunctionDecl, Function}
 use Rattle.campl_types.specs.World.{World}
-use Rattle.campl_value.specs.Tree.{Int, Nil, Cell, Pair}
+use Rattle.campl_types.specs.Forms as form
+use Rattle.campl_types.specs.Forms.{Form}
+use Rattle.campl_value.specs.Tree.{Truth, Int, Nil, Cell, Pair}
 use Rattle.campl_evaluation.specs.Evaluation.{Done, Wrong, value_of}
-use Rattle.campl_code.specs.Decisions.{Decision, Row}
+use Rattle.campl_code.specs.Decisions.{Decision, Row, Test, Fail, chosen}
+use Rattle.campl_code.specs.Decisions as v
+use Rattle.campl_code.specs.Compiled.{decision_for}
+use Rattle.campl_code.specs.Numbers.{Numbers}
 use Rattle.campl_code.specs.Instructions.{Instr, Block, Code}
 use Rattle.campl_code.specs.Instructions as i
 use Rattle.campl_code.specs.Runs.{run, Gave, Pauses, Outcome}
 use Rattle.campl_code.specs.Frames.{frame_at}
 use Rattle.campl_code.specs.Rules.{first_fault}
-use Rattle.campl_code.specs.Generated.{function_code, code_of_all, functions_code}
+use Rattle.campl_code.specs.Generated.{function_code, code_of, code_of_all, functions_code}
 
 abbrev at : Place
 at = record { line = 1; column = 1 }
@@ -64,26 +69,71 @@ pauses_with o = 0
 pauses : pauses_with (run whole 100 (frame_at 1 0 []) [] 2) ≡ 1
 pauses = refl
 
--- Rules
-
+-- it breaks no rule
 sound : first_fault whole ≡ None
 sound = refl
 
-abbrev alone : List Instr → Code
-alone code = record { functions = []; processes = record { name = 9 ∷ []; variables = 0; inputs = 0; outputs = 0; code = code } ∷ []; decisions = [] }
+-- Forms of expressions, over two variables
 
--- one value too few, two ways with different heights, a return in a process, an end that isn't there
-few : first_fault (alone (i.Int (pos 1) ∷ i.Cons ∷ i.Halt None ∷ [])) ≡ Some (0, 1)
-few = refl
+abbrev numbers : Numbers
+numbers = (6 ∷ [], 1) ∷ (8 ∷ [], 0) ∷ []
 
-ways : first_fault (alone (i.Truth true ∷ i.Unless 3 ∷ i.Nil ∷ i.Halt None ∷ [])) ≡ Some (0, 3)
-ways = refl
+abbrev first : Expr
+first = e.Variable at (8 ∷ [])
 
-other_kind : first_fault (alone (i.Nil ∷ i.Return ∷ [])) ≡ Some (0, 1)
-other_kind = refl
+abbrev second : Expr
+second = e.Variable at (6 ∷ [])
 
-open_end : first_fault (alone (i.Close 0 ∷ [])) ≡ Some (0, 0)
-open_end = refl
+-- the right side is tested too
+and_code : code_of [] false (e.And at first second) 0 0 2 numbers
+    ≡ i.Load 0 ∷ i.Unless 6 ∷ i.Load 1 ∷ i.Unless 6 ∷ i.Truth true ∷ i.Jump 7 ∷ i.Truth false ∷ []
+and_code = refl
+
+or_code : code_of [] false (e.Or at first second) 0 0 2 numbers
+    ≡ i.Load 0 ∷ i.Unless 4 ∷ i.Truth true ∷ i.Jump 9 ∷ i.Load 1 ∷ i.Unless 8 ∷ i.Truth true ∷ i.Jump 9 ∷ i.Truth false ∷ []
+or_code = refl
+
+if_code : code_of [] false (e.If at first second first) 0 0 2 numbers ≡ i.Load 0 ∷ i.Unless 4 ∷ i.Load 1 ∷ i.Jump 5 ∷ i.Load 0 ∷ []
+if_code = refl
+
+-- at the end of a function each branch returns by itself
+if_at_end : code_of [] true (e.If at first second first) 0 0 2 numbers ≡ i.Load 0 ∷ i.Unless 4 ∷ i.Load 1 ∷ i.Return ∷ i.Load 0 ∷ i.Return ∷ []
+if_at_end = refl
+
+-- the rows of a case begin behind its match, and their variables behind those that are known
+case_code : code_of [] false (e.Case at first (e.expr_row_then (p.Number at (pos 1)) second (e.expr_row_then (p.Variable at (5 ∷ [])) (e.Variable at (5 ∷ [])) e.no_expr_rows))) 0 0 2 numbers
+    ≡ i.Load 0 ∷ i.Match 0 2 (2 ∷ 4 ∷ []) ∷ i.Load 1 ∷ i.Jump 6 ∷ i.Load 2 ∷ i.Jump 6 ∷ []
+case_code = refl
+
+-- Decisions
+
+abbrev anything : Form
+anything = form.Anything
+
+-- the rows `[], _`, `_, []` and `x : xs, y : ys`
+zip_rows : decision_for [] 2 ((form.Nil ∷ anything ∷ []) ∷ (anything ∷ form.Nil ∷ [])
+    ∷ (form.Cons (form.Variable (1 ∷ [])) (form.Variable (2 ∷ [])) ∷ form.Cons (form.Variable (3 ∷ [])) (form.Variable (4 ∷ [])) ∷ []) ∷ [])
+    ≡ record {
+      width = 2;
+      bound = 0 ∷ 0 ∷ 4 ∷ [];
+      tree = Test (0 ∷ []) v.Nil (Row 0 [])
+          (Test (1 ∷ []) v.Nil (Row 1 [])
+          (Test (0 ∷ []) v.Cell (Test (1 ∷ []) v.Cell (Row 2 ((0 ∷ 0 ∷ []) ∷ (0 ∷ 1 ∷ []) ∷ (1 ∷ 0 ∷ []) ∷ (1 ∷ 1 ∷ []) ∷ [])) Fail) Fail));
+    }
+zip_rows = refl
+
+-- the first of two rows that match, and a value of another kind
+abbrev truths : List (List Form)
+truths = (form.Truth true ∷ []) ∷ (anything ∷ []) ∷ (form.Truth false ∷ []) ∷ []
+
+finds : chosen (decision_for [] 1 truths).tree (Truth true ∷ []) ≡ Some (0, [])
+finds = refl
+
+finds_first : chosen (decision_for [] 1 truths).tree (Truth false ∷ []) ≡ Some (1, [])
+finds_first = refl
+
+finds_other : chosen (decision_for [] 1 truths).tree (Int (pos 3) ∷ []) ≡ Some (1, [])
+finds_other = refl
 
 -- Code that does not stand for its expression
 
