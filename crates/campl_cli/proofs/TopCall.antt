@@ -1,5 +1,5 @@
 -- The four ways in which the command ends.
-use Rattle.std.proofs.Common.{◌≡◌, ◌<◌, ℕ, ◌+◌, List, [], ◌∷◌, arith, inl, inr, ap, ap₂, sym, subst, ◌∙◌, map}
+use Rattle.std.proofs.Common.{◌≡◌, ◌≢◌, Bool, true, false, Option, Some, None, ◌<◌, ℕ, ◌+◌, List, [], ◌∷◌, arith, inl, inr, ap, ap₂, sym, subst, ◌∙◌, map}
 use Rattle.std.specs.Prelude.{All}
 use Rattle.std.specs.List.{fold}
 use Rattle.std.proofs.lemmas.List.{length-map}
@@ -15,7 +15,8 @@ use Rattle.campl_cli.specs.declared.refusal.Refusal.{Refusal}
 use Rattle.campl_cli.specs.declared.refusal.Refusal.TheVariants.{BadCommandLine, ReadFault, TooLong, NotUtf8, Source, NotBuilt, OutOfMemory}
 use Rattle.campl_cli.specs.declared.report.Report.{Report}
 use Rattle.campl_cli.specs.Form.{Prints}
-use Rattle.campl_cli.specs.Refusals.{Files, IsAccepted, IsDue, TakesMemory}
+use Rattle.campl_cli.specs.Refusals.{Files, IsAccepted, IsDue, IsRefusedBy, IsRefusedOrder, TakesMemory, runs, source_of}
+use Rattle.campl_orders.specs.Orders.{IsOrder, PlainOrder}
 use Rattle.campl_cli.specs.Performance.{IsPerformance, IsPrinted}
 use Rattle.campl_cli.specs.Answer.{Stream, Had, HadNothing, HasRun, IsAnswer, IsTold, IsRefused, FailedIn, printed, step_budget}
 use Rattle.campl_cli.proofs.Printing.{Comes, printing-runs}
@@ -31,6 +32,29 @@ weights_from n (entry ∷ entries) = omega (arith, weights_from (n + entry.weigh
 
 weight_is : (entries : List Entry) → weight_of entries ≡ steps_of (plain_entries entries)
 weight_is entries = omega (arith, weights_from 0 entries)
+
+-- want of memory comes freely, but where no source is read
+memory_comes : (files : Files) (b : Bool) (o : Option (List ℕ)) (refusal : Refusal) → refusal ≢ NotBuilt → IsRefusedBy b o files refusal → IsRefusedBy b o files OutOfMemory
+memory_comes files true (Some file) refusal n is = tt
+memory_comes files false (Some file) refusal n is = tt
+memory_comes files true None refusal n is = absurd (n is)
+memory_comes files false None refusal n is = absurd (n is)
+
+no_words_due : (files : Files) (b : Bool) (o : Option (List ℕ)) → IsRefusedBy b o files BadCommandLine → ⊥
+no_words_due files true (Some file) is = is
+no_words_due files false (Some file) is = is
+no_words_due files true None is = let no : ⊥ = cc in no
+no_words_due files false None is = let no : ⊥ = cc in no
+
+-- an order's refusal is one of the command
+pub order_due : (words : List (List ℕ)) (files : Files) (order : PlainOrder) (refusal : Refusal) → IsOrder words order → IsRefusedOrder order files refusal → IsDue words files refusal
+order_due words files order BadCommandLine is refused = absurd (no_words_due files (runs order) (source_of order) refused)
+order_due words files order ReadFault is refused = (order, is, refused)
+order_due words files order TooLong is refused = (order, is, refused)
+order_due words files order (NotUtf8 at) is refused = (order, is, refused)
+order_due words files order (Source fault) is refused = (order, is, refused)
+order_due words files order NotBuilt is refused = (order, is, refused)
+order_due words files order OutOfMemory is refused = (order, is, refused)
 
 module _ (words : List (List ℕ)) (files : Files) (out err : Stream) (report : Report) where
   -- what ran and is printed or couldn't be
@@ -80,10 +104,10 @@ module _ (words : List (List ℕ)) (files : Files) (out err : Stream) (report : 
     | inr answer ↦ inr (inr (inr (record { status = answer.0; refusal = refusal; due = due; other = answer.1; no_run = told.no_run; no_output = nothing; told = answer.2 })))
   ]
 
-  -- where a line takes memory, the words are a command
+  -- where a line takes memory, the words are an order
   starved : (refusal : Refusal) → IsDue words files refusal → TakesMemory refusal → IsDue words files OutOfMemory
-  starved (NotUtf8 at) (file, is, refused) takes = (file, is, tt)
-  starved (Source fault) (file, is, refused) takes = (file, is, tt)
+  starved (NotUtf8 at) (order, is, refused) takes = (order, is, memory_comes files (runs order) (source_of order) (NotUtf8 at) (λ e. let no : ⊥ = cc in no) refused)
+  starved (Source fault) (order, is, refused) takes = (order, is, memory_comes files (runs order) (source_of order) (Source fault) (λ e. let no : ⊥ = cc in no) refused)
   starved BadCommandLine due takes = absurd takes
   starved TooLong due takes = absurd takes
   starved NotBuilt due takes = absurd takes

@@ -2,7 +2,6 @@ pub mod Form
 pub mod Faults
 pub mod Source
 pub mod Printing
-pub mod Words
 pub mod Refusals
 pub mod Answer
 pub mod Performance

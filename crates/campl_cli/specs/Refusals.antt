@@ -1,5 +1,5 @@
 -- Why the command ended before its run: each refusal with its status, its line, and when it is due.
-use Rattle.std.specs.Prelude.{ℕ, ◌<◌, List, [], ◌∷◌, ◌++◌, Option, IfSome, codes, length, Err, Ok, ⊤}
+use Rattle.std.specs.Prelude.{◌≡◌, ℕ, ◌<◌, ◌==◌, Bool, true, false, List, [], ◌∷◌, ◌++◌, Option, Some, None, IfSome, codes, length, Err, Ok, ⊤}
 use Rattle.std.specs.Fmt.{decimal}
 use Rattle.campl_text.specs.Counts.{Rose}
 use Rattle.campl_text.specs.Reading.{IsReading, IsTextWithin}
@@ -10,7 +10,7 @@ use Rattle.campl_cli.specs.declared.refusal.Refusal.TheVariants.{BadCommandLine,
 use Rattle.campl_cli.specs.Faults.{message_of_fault}
 use Rattle.campl_cli.specs.Form.{Prints, IsFormOf}
 use Rattle.campl_cli.specs.Source.{HasJudged, IsSourceFault}
-use Rattle.campl_cli.specs.Words.{IsCommand}
+use Rattle.campl_orders.specs.Orders.{IsOrder, PlainOrder, run, check, code, generate, migrate}
 
 -- the most bytes that a source has
 abbrev pub source_limit : ℕ
@@ -88,10 +88,6 @@ IsRefusedText text ReadFault = ⊥
 abbrev pub IsSource : Files → (file : List ℕ) → Prints → Type 0
 IsSource files file p = (text : List ℕ) × HasText files file text × PrintsText text p
 
--- the words name a file whose source is of the form, and prints this
-abbrev pub IsAccepted : List (List ℕ) → Files → Prints → Type 0
-IsAccepted words files p = (file : List ℕ) × IsCommand words file × IsSource files file p
-
 -- when a file's source is refused so; want of memory alone comes freely
 abbrev pub IsRefusedSource : Files → (file : List ℕ) → Refusal → Type 0
 IsRefusedSource files file BadCommandLine = ⊥
@@ -102,7 +98,63 @@ IsRefusedSource files file (Source fault) = (text : List ℕ) × HasText files f
 IsRefusedSource files file NotBuilt = (text : List ℕ) × HasText files file text × IsRefusedText text NotBuilt
 IsRefusedSource files file OutOfMemory = ⊤
 
--- when a command is refused so: its words are no command, or the source of its file is refused
+-- ---- orders
+
+-- the file whose source an order is about; a script that is migrated is none
+abbrev pub source_of : PlainOrder → Option (List ℕ)
+source_of (run file script steps workers) = Some file
+source_of (check file) = Some file
+source_of (code file) = Some file
+source_of (generate stages workers) = None
+source_of (migrate file) = None
+
+-- what runs so far: no script, and the usual budget
+abbrev pub runs : PlainOrder → Bool
+runs (run file None steps workers) = steps == 100000
+runs (run file (Some script) steps workers) = false
+runs (check file) = false
+runs (code file) = false
+runs (generate stages workers) = false
+runs (migrate file) = false
+
+-- the order runs so far, and the file's source prints this
+abbrev pub RunsTo : PlainOrder → Files → Prints → Type 0
+RunsTo order files p = (runs order ≡ true) × ((file : List ℕ) × (source_of order ≡ Some file) × IsSource files file p)
+
+-- the words are such an order
+abbrev pub IsAccepted : List (List ℕ) → Files → Prints → Type 0
+IsAccepted words files p = (order : PlainOrder) × IsOrder words order × RunsTo order files p
+
+-- when a text of which more than its check is ordered is refused so: it has a fault, or none and this isn't built
+abbrev pub IsUnbuiltText : List ℕ → Refusal → Type 0
+IsUnbuiltText text (Source fault) = IsSourceFault text fault
+IsUnbuiltText text NotBuilt = (program : Program) × HasJudged text program
+IsUnbuiltText text OutOfMemory = ⊤
+IsUnbuiltText text BadCommandLine = ⊥
+IsUnbuiltText text TooLong = ⊥
+IsUnbuiltText text (NotUtf8 at) = ⊥
+IsUnbuiltText text ReadFault = ⊥
+
+-- when an order that doesn't run yet is refused so: its source is refused, or has no fault and this isn't built
+abbrev pub IsRefusedUnbuilt : Files → (file : List ℕ) → Refusal → Type 0
+IsRefusedUnbuilt files file BadCommandLine = ⊥
+IsRefusedUnbuilt files file ReadFault = IsRefusedSource files file ReadFault
+IsRefusedUnbuilt files file TooLong = IsRefusedSource files file TooLong
+IsRefusedUnbuilt files file (NotUtf8 at) = IsRefusedSource files file (NotUtf8 at)
+IsRefusedUnbuilt files file (Source fault) = (text : List ℕ) × HasText files file text × IsUnbuiltText text (Source fault)
+IsRefusedUnbuilt files file NotBuilt = (text : List ℕ) × HasText files file text × IsUnbuiltText text NotBuilt
+IsRefusedUnbuilt files file OutOfMemory = ⊤
+
+-- when an order is refused so, by whether it runs so far and by its source
+abbrev pub IsRefusedBy : (runs_so_far : Bool) → Option (List ℕ) → Files → Refusal → Type 0
+IsRefusedBy true (Some file) files refusal = IsRefusedSource files file refusal
+IsRefusedBy false (Some file) files refusal = IsRefusedUnbuilt files file refusal
+IsRefusedBy _ None files refusal = refusal ≡ NotBuilt
+
+abbrev pub IsRefusedOrder : PlainOrder → Files → Refusal → Type 0
+IsRefusedOrder order = IsRefusedBy (runs order) (source_of order)
+
+-- when a command is refused so: its words are no order, or its order is refused
 abbrev pub IsDue : List (List ℕ) → Files → Refusal → Type 0
-IsDue words files BadCommandLine = (file : List ℕ) → IsCommand words file → ⊥
-IsDue words files refusal = (file : List ℕ) × IsCommand words file × IsRefusedSource files file refusal
+IsDue words files BadCommandLine = (order : PlainOrder) → ¬ (IsOrder words order)
+IsDue words files refusal = (order : PlainOrder) × IsOrder words order × IsRefusedOrder order files refusal

@@ -3,7 +3,8 @@ ghost use Rattle.std.specs.Prelude.{MatchResult, IfErr, IfOk, map, string_bytes}
 ghost use Rattle.campl_cli.specs.Answer.{stream, IsAnswer};
 ghost use Rattle.campl_cli.specs.Form.{Prints, prints_of};
 ghost use Rattle.campl_cli.specs.Performance.{IsPerformance};
-ghost use Rattle.campl_cli.specs.Refusals.{files, PrintsText, IsRefusedText, IsSource, IsRefusedSource, IsAccepted, IsDue};
+ghost use Rattle.campl_cli.specs.Refusals.{files, PrintsText, IsRefusedText, IsSource, IsRefusedOrder, IsRefusedSource, IsRefusedUnbuilt, IsUnbuiltText, IsAccepted, IsDue, RunsTo};
+ghost use Rattle.campl_orders.specs.Reading.{view};
 
 use crate::functions::judge;
 use crate::gate::Gate;
@@ -13,15 +14,16 @@ use crate::refusal::{Refusal, SOURCE_LIMIT};
 use crate::report::Report;
 use crate::source::tree_of;
 use crate::telling::refuse;
-use crate::words::file_of;
+use campl_orders::{Order, STEPS, read_words};
 use campl_text::{Shelf, Sink, Text, TextFault, read_text};
 use std::alloc::Global;
 use std::thread::Threads;
 
-/// Runs the command that the words give, which are those after the program's name: `run FILE`.
+/// Does what the words order, which are those after the program's name; `campl_orders` lists the orders.
 ///
 /// It reads the source FILE from the shelf, runs it, and writes its output onto `out`. Where it is refused it writes one line onto
-/// `err` instead. `docs/LANGUAGE.md` lists the statuses. The runtime and the gate serve runs of several workers.
+/// `err` instead. So far a run without a script and with the usual budget is done, and other orders are refused behind the check of
+/// their source. `docs/LANGUAGE.md` lists the statuses. The runtime and the gate serve runs of several workers.
 pub fn campl<R: Threads + Sync, F: Shelf, O: Sink, E: Sink, G: Gate>(
     rt: &R,
     alloc: Global,
@@ -55,9 +57,43 @@ fn perform_words<F: Shelf>(
         (λ performance. (p : Prints) × IsAccepted (map string_bytes words.now) (files F.holds F.faults shelf.old shelf.new) p × IsPerformance p performance)
         (IsDue (map string_bytes words.now) (files F.holds F.faults shelf.old shelf.new)) }
 {
-    match file_of(words) {
-        Some(file) => perform_file(alloc, file, shelf),
+    match read_words(words) {
+        Some(order) => perform_order(alloc, order, shelf),
         None => Err(Refusal::BadCommandLine),
+    }
+}
+
+// Does what is ordered, as far as it is built: a run without a script and with the usual budget. Of any other order that is about a
+// source that is checked.
+fn perform_order<F: Shelf>(
+    alloc: Global,
+    order: Order<'_>,
+    shelf: &mut F,
+) -> Result<Performance, Refusal>
+    ensures { MatchResult result
+        (λ performance. (p : Prints) × RunsTo (view order.entry) (files F.holds F.faults shelf.old shelf.new) p × IsPerformance p performance)
+        (IsRefusedOrder (view order.entry) (files F.holds F.faults shelf.old shelf.new)) }
+{
+    match order {
+        Order::Run {
+            file,
+            script: None,
+            steps: STEPS,
+            workers: _,
+        } => perform_file(alloc, file, shelf),
+        Order::Run {
+            file,
+            script: _,
+            steps: _,
+            workers: _,
+        } => Err(unbuilt(alloc, file, shelf)),
+        Order::Check { file } => Err(unbuilt(alloc, file, shelf)),
+        Order::Code { file } => Err(unbuilt(alloc, file, shelf)),
+        Order::Generate {
+            stages: _,
+            workers: _,
+        } => Err(Refusal::NotBuilt),
+        Order::Migrate { file: _ } => Err(Refusal::NotBuilt),
     }
 }
 
@@ -101,5 +137,31 @@ fn read_printer(alloc: Global, text: &Text) -> Result<Printer, Refusal>
     match printer {
         Some(printer) => Ok(printer),
         None => Err(Refusal::NotBuilt),
+    }
+}
+
+// Why an order about the source of a file isn't done yet: the source is refused, or else this isn't built.
+fn unbuilt<F: Shelf>(alloc: Global, file: &str, shelf: &mut F) -> Refusal
+    ensures { IsRefusedUnbuilt (files F.holds F.faults shelf.old shelf.new) file.now result }
+{
+    match read_text(alloc, shelf, file, SOURCE_LIMIT) {
+        Ok(text) => unbuilt_text(alloc, &text),
+        Err(TextFault::ReadFault) => Refusal::ReadFault,
+        Err(TextFault::TooLong) => Refusal::TooLong,
+        Err(TextFault::NotUtf8 { at }) => Refusal::NotUtf8 { at },
+        Err(TextFault::OutOfMemory) => Refusal::OutOfMemory,
+    }
+}
+
+// The same of a text.
+fn unbuilt_text(alloc: Global, text: &Text) -> Refusal
+    ensures { IsUnbuiltText text.now result }
+{
+    match tree_of(alloc, text) {
+        Ok(program) => match judge(alloc, program) {
+            Ok(()) => Refusal::NotBuilt,
+            Err(refusal) => refusal,
+        },
+        Err(refusal) => refusal,
     }
 }

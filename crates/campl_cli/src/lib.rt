@@ -16,7 +16,6 @@ mod report;
 mod runner;
 mod source;
 mod telling;
-mod words;
 
 pub use command::campl;
 pub use fault::{Detail, FaultKind, SourceFault};
@@ -28,4 +27,3 @@ pub use refusal::{Refusal, SOURCE_LIMIT};
 pub use report::{Ended, Report};
 pub use source::{one_answer, tree_of};
 pub use telling::refuse;
-pub use words::file_of;
