@@ -1,8 +1,8 @@
 -- The code that is generated for processes and for a source.
-use Rattle.std.specs.Prelude.{ℕ, ◌+◌, List, [], ◌∷◌, ◌++◌, length}
+use Rattle.std.specs.Prelude.{◌≡◌, ℕ, ◌+◌, List, [], ◌∷◌, ◌++◌, length}
 use Rattle.campl_tree.specs.Plain.Decl.{Program, ProcessDecl}
 use Rattle.campl_types.specs.World.{World, world_of}
-use Rattle.campl_code.specs.Decisions.{Decision}
+use Rattle.campl_code.specs.Decisions.{Decision, AllChooseAlike}
 use Rattle.campl_code.specs.Instructions.{Block, Code}
 use Rattle.campl_code.specs.Stands.{functions_of}
 use Rattle.campl_code.specs.Generated.{function_blocks}
@@ -49,3 +49,9 @@ code_within w n =
 -- the code that is generated for a source
 abbrev pub source_code : Program → Code
 source_code source = code_within (world_of source) (processes_size (processes_of (world_of source)))
+
+-- the same blocks, with decisions that choose as those do
+pub record IsCodeOf (source : Program) (code : Code) : Type 0 where
+  pub functions : (source_code source).functions ≡ code.functions
+  pub processes : (source_code source).processes ≡ code.processes
+  pub decisions : AllChooseAlike (source_code source).decisions code.decisions

@@ -9,6 +9,8 @@ ghost use Rattle.campl_meaning.specs.States.{Running};
 ghost use Rattle.campl_meaning.specs.Wants.{term_command};
 ghost use Rattle.campl_meaning.specs.Reductions.{Configuration, Event, reduce};
 ghost use Rattle.campl_meaning.specs.Start.{start};
+ghost use Rattle.campl_types.specs.Forms.{Form};
+ghost use Rattle.campl_code.specs.Decisions.{Decision, StandsForRows, ChooseAlike, AllChooseAlike};
 ghost use Rattle.campl_code.specs.Forward.{IsForward};
 ghost use Rattle.campl_code.specs.Instructions.{Block, Code};
 ghost use Rattle.campl_code.specs.Frames.{Frame};
@@ -65,4 +67,11 @@ pub fn law_kept()
         → CommandsAlike w code (kept_command code c p branch kept) (term_command w p r branch r.term) }
     ensures goes { (code : Code) (c : Cell) (f : Frame) (fs : List Frame) (j m : ℕ) → IsKept code c (AtCall f fs) → IsOver (run code j f fs m)
         → IsKept code (spent_more m c) (kept_of (run code j f fs m)) }
+{}
+
+/// Code that stands for a source still does where its decisions are replaced by others that choose alike; and two that
+/// stand for the same rows choose alike.
+pub fn law_other_decisions()
+    ensures stands { (w : World) (code : Code) (ds : List Decision) → StandsFor w code → AllChooseAlike code.decisions ds → StandsFor w (record code { decisions = ds }) }
+    ensures alike { (w : World) (c d : Decision) (rows : List (List Form)) (n : ℕ) → StandsForRows w c rows n → StandsForRows w d rows n → ChooseAlike c d }
 {}

@@ -1,4 +1,5 @@
 pub mod HeldNames
 pub mod HcaseRows
 pub mod Needs
-pub mod Final
+pub mod Generated
+pub mod Runs
