@@ -1,5 +1,5 @@
 -- Worked command lines.
-use Rattle.std.proofs.Common.{◌≡◌, ℕ, List, [], ◌∷◌, ◌++◌, replicate, Option, Some, None, refl, codes}
+use Rattle.std.proofs.Common.{◌≡◌, ℕ, List, [], ◌∷◌, Option, Some, None, refl, codes}
 use Rattle.campl_orders.specs.Orders.{PlainOrder, IsOrder, run, check, code, generate, migrate}
 use Rattle.campl_orders.specs.Reading.{order_of}
 use Rattle.campl_orders.proofs.Agreement.{computes-order, order-computes}
