@@ -1,7 +1,8 @@
 -- Worked command lines.
-use Rattle.std.proofs.Common.{◌≡◌, ℕ, List, [], ◌∷◌, ◌++◌, replicate, Option, Some, None, refl, codes}
-use Rattle.campl_orders.specs.Orders.{PlainOrder, run, check, code, generate, migrate}
+use Rattle.std.proofs.Common.{◌≡◌, ℕ, List, [], ◌∷◌, Option, Some, None, refl, codes}
+use Rattle.campl_orders.specs.Orders.{PlainOrder, IsOrder, run, check, code, generate, migrate}
 use Rattle.campl_orders.specs.Reading.{order_of}
+use Rattle.campl_orders.proofs.Agreement.{computes-order, order-computes}
 
 abbrev file : List ℕ
 file = codes "bank.campl"
@@ -138,3 +139,11 @@ most-stages = refl
 
 too-many-stages : order_of (codes "generate" ∷ (codes "10001" ∷ [])) ≡ None
 too-many-stages = refl
+
+-- ---- the same of the relation
+
+is-run : IsOrder (codes "run" ∷ (file ∷ [])) (run file None 100000 4)
+is-run = computes-order (codes "run" ∷ (file ∷ [])) (run file None 100000 4) plain
+
+is-none : (order : PlainOrder) → ¬ (IsOrder (codes "run" ∷ (file ∷ (codes "--steps=5" ∷ (codes "--steps" ∷ (codes "5" ∷ []))))) order)
+is-none order d = let some : None ≡ Some order = order-computes _ order d in let no : ⊥ = cc in no

@@ -8,7 +8,7 @@ use Rattle.std.proofs.lemmas.List.Sums.{split_at_first, passes_at_first}
 use Rattle.std.proofs.lemmas.List.Elements.{All-nil, All-cons}
 use Rattle.campl_orders.proofs.Numerals.{both}
 use Rattle.campl_orders.specs.Orders.{Part, Given, IsValue, operand, option_word, Writes, nothing, an_operand, apart, joined, operands_alone}
-use Rattle.campl_orders.specs.Reading.{fills, finished, gathered, is_equals, is_value, met, met_apart, met_joined, met_word, option_named, put, put_new, read}
+use Rattle.campl_orders.specs.Reading.{fills, gathered, is_equals, is_value, met, met_apart, met_joined, met_word, option_named, put, put_new}
 use Rattle.campl_orders.specs.declared.found.Slot.{Slot}
 use Rattle.campl_orders.specs.declared.found.Slot.TheVariants.{Operand, Script, Steps, Workers}
 use Rattle.campl_orders.specs.declared.reader.State.{State}

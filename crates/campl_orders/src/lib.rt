@@ -20,7 +20,6 @@ mod order;
 mod reader;
 mod reading;
 
-pub use found::Slot;
 pub use laws::{law_order_computes, law_orders_are_one};
-pub use order::{Order, STAGES_MAX, STEPS, STEPS_MAX, WORKERS, WORKERS_MAX};
+pub use order::{Order, STEPS};
 pub use reading::read_words;
