@@ -10,7 +10,19 @@ fn depth_of(message: &Message) -> std::result::Result<Option<u32>, AllocError> {
     Ok(message.copy()?.into_word().map(|value| value.depth()))
 }
 
+// What may be used from any thread.
+fn is_shared<T: Send + Sync>(_shared: &T) {}
+
+// A message and its value may: this is judged when the program is proved.
+fn are_shared(message: &Message) {
+    is_shared(message);
+    if let Message::Word(value) = message {
+        is_shared(value);
+    }
+}
+
 fn print_message(out: &mut impl Write, message: &Message) -> Result<()> {
+    are_shared(message);
     match message {
         Message::Word(value) => write!(out, "a word that is {} deep", value.depth())?,
         Message::Pick(number) => write!(out, "the constructor {number}")?,
