@@ -54,7 +54,7 @@ judge_process w p =
     and_then (as_many p.row.place (length p.row.outputs) (length p.outputs)) (λ _.
     judge w (row_variables p.row.variables p.parameters) (row_holding p) p.row.body))))
 
-abbrev judge_decl : World → Decl → Judged LinFault Fine
+abbrev pub judge_decl : World → Decl → Judged LinFault Fine
 judge_decl w (Process p) = judge_process w p
 judge_decl w (Data d) = Is fine
 judge_decl w (Protocol d) = Is fine

@@ -3,8 +3,8 @@
 //! [`declare`] judges the names of a program by the rules of `campl_types` and gives its [`World`], which
 //! finds what is declared by a name. A world also reads off the channels of `run` (`services`), the polarity
 //! table (`allowed`), and the type that remains after a constructor (`after`). [`partners`] says which two ends
-//! fit together, and [`same_seq`] which sequential types are the same; a [`Filling`] is what type parameters
-//! stand for. A channel of type `Put(Int | TopBot)` gives
+//! fit together, and [`same_seq`] and [`same_chan`] which types are the same; a [`Filling`] is what type parameters
+//! stand for, and a [`NameSet`] a set of names. A channel of type `Put(Int | TopBot)` gives
 //!
 //! ```text
 //! on the output side: Act::Put, on the input side: Act::Get
@@ -33,6 +33,7 @@ mod world;
 pub use ends::partners;
 pub use filling::{Filling, parts_at};
 pub use judge::declare;
+pub use name_set::NameSet;
 pub use run::RunServices;
-pub use same::same_seq;
+pub use same::{same_chan, same_seq};
 pub use world::{ConstructorRef, LowerRef, TypeRef, World};

@@ -10,7 +10,7 @@ use std::marker::Model;
 
 /// Names, each once, in the order in which they came.
 #[derive(Drop)]
-pub(crate) struct NameSet {
+pub struct NameSet {
     names: IndexSet<Name>,
 }
 
@@ -26,7 +26,8 @@ impl Model for NameSet {
 }
 
 impl NameSet {
-    pub(crate) fn new(alloc: Global) -> NameSet
+    /// No names.
+    pub fn new(alloc: Global) -> NameSet
         ensures { result ≡ [] }
     {
         NameSet {
@@ -36,22 +37,26 @@ impl NameSet {
 
     /// Whether a name is in the set.
     #[tactic(auto, using(crate::proofs::Sets::sets))]
-    pub(crate) fn has(&self, name: &Name) -> bool
+    pub fn has(&self, name: &Name) -> bool
         ensures { result ≡ is_among name.now self.now }
     {
         self.names.contains(name)
     }
 
     /// The number of names.
-    pub(crate) fn len(&self) -> usize
+    pub fn len(&self) -> usize
         ensures { result ≡ length self.now }
     {
         self.names.len()
     }
 
     /// Puts a name behind the others, if it isn't there.
+    ///
+    /// # Errors
+    ///
+    /// `AllocError` for want of memory.
     #[tactic(auto, using(crate::proofs::Sets::sets))]
-    pub(crate) fn add(&mut self, alloc: Global, name: &Name) -> Result<(), AllocError>
+    pub fn add(&mut self, alloc: Global, name: &Name) -> Result<(), AllocError>
         ensures { OnOk result (self.new ≡ with_name name.now self.old) }
     {
         let name = name.copy(alloc)?;
@@ -62,7 +67,7 @@ impl NameSet {
     }
 
     /// Keeps the first names, as many as `len` says.
-    pub(crate) fn truncate(&mut self, len: usize)
+    pub fn truncate(&mut self, len: usize)
         ensures { self.new ≡ take len self.old }
     {
         self.names.truncate(len);

@@ -45,7 +45,7 @@ fn same_seqs(ts: &[SeqType], us: &[SeqType]) -> bool
 
 /// Whether two channel types are the same.
 #[tactic(auto, using(crate::proofs::Trees::chan_views))]
-pub(crate) fn same_chan(x: &ChanType, y: &ChanType) -> bool
+pub fn same_chan(x: &ChanType, y: &ChanType) -> bool
     ensures { result ≡ test.same_chan (view_chan x.now) (view_chan y.now) }
 {
     match (x, y) {
