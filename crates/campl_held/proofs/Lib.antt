@@ -1,0 +1,4 @@
+pub mod Slots
+pub mod Entries
+pub mod Told
+pub mod Turns
