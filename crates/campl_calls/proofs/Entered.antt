@@ -101,8 +101,8 @@ module _ (row : ProcessRow) (d : Differ [] (idents_of row)) where
   outputs-differ ts =
       let vs = variables_bound row.variables in
       fewer (held_names (entering Input row.inputs ts)) (noting [] (vs ++ row.inputs)) row.outputs
-          (subst (Within (held_names (entering Input row.inputs ts))) (sym (noting-both [] vs row.inputs)) (entering-noted Input (noting [] vs) row.inputs ts))
-          (later [] (vs ++ row.inputs) row.outputs d)
+      (subst (Within (held_names (entering Input row.inputs ts))) (sym (noting-both [] vs row.inputs)) (entering-noted Input (noting [] vs) row.inputs ts))
+      (later [] (vs ++ row.inputs) row.outputs d)
 
 -- Channels that come
 
@@ -127,7 +127,7 @@ module _ (s : Side) (names : List Ident) (types : List code.ChanType) (i : ℕ) 
       → Differ (held_names (comes x.name c held)) (drop (i + 1) names)
   differ-more held c x l is d =
       fewer (held_names (comes x.name c held)) (x.name ∷ held_names held) (drop (i + 1) names) (come-behind x.name c held)
-          (first-differs (held_names held) x (drop (i + 1) names) (subst (Differ (held_names held)) (drop-at names i x l is) d)).1
+      (first-differs (held_names held) x (drop (i + 1) names) (subst (Differ (held_names held)) (drop-at names i x l is) d)).1
 
   enter-at : (x : Ident) (t : code.ChanType) → i < min (length names) (length types) → x ≡ get_or names i x → t ≡ get_or types i t
       → entering s (drop i names) (map view_chan (drop i types)) ≡ (x.name, On s (view_chan t)) ∷ entering s (drop (i + 1) names) (map view_chan (drop (i + 1) types))

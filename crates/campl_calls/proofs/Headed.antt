@@ -27,8 +27,8 @@ four-steps (Is f) (Is g) (Is h) (Is e) s next = refl
 pub judged-headed : (w : World) (p : ProcessDecl) → judge_process w p ≡ and_then (headed p) (λ s. judge w s.0 s.1 p.row.body)
 judged-headed w p =
     four-steps (names_differ [] (idents_of p.row)) (from_seq (counted p.row.place (length p.row.variables) (length p.parameters)))
-        (as_many p.row.place (length p.row.inputs) (length p.inputs)) (as_many p.row.place (length p.row.outputs) (length p.outputs))
-        (row_variables p.row.variables p.parameters, row_holding p) (λ (s : Vars × Holding). judge w s.0 s.1 p.row.body)
+    (as_many p.row.place (length p.row.inputs) (length p.inputs)) (as_many p.row.place (length p.row.outputs) (length p.outputs))
+    (row_variables p.row.variables p.parameters, row_holding p) (λ (s : Vars × Holding). judge w s.0 s.1 p.row.body)
 
 -- the names of a row that stands differ
 pub stands-differ : (p : ProcessDecl) → row_stands p ≡ Is fine → names_differ [] (idents_of p.row) ≡ Is fine

@@ -8,6 +8,7 @@ ghost use Rattle.campl_held.specs.Answered.{Answers, Tells};
 ghost use Rattle.campl_held.specs.Slots.{view_channel, view_held};
 ghost use Rattle.campl_calls.specs.Handing.{handed_one, all_handed};
 
+use crate::sides::same_side;
 use campl_held::{Held, HeldChannel, LinFault, find_held, none_left};
 use campl_names::same_chan;
 use campl_tree::{ChanType, Ident, Place, ProcessDecl, Side};
@@ -37,7 +38,13 @@ pub(crate) fn hand_all(
         Ok(()) => {}
         Err(fault) => return Err(fault),
     }
-    match hand_over(alloc, &mut held, Side::Output, outputs, p.outputs.as_slice()) {
+    match hand_over(
+        alloc,
+        &mut held,
+        Side::Output,
+        outputs,
+        p.outputs.as_slice(),
+    ) {
         Ok(()) => {}
         Err(fault) => return Err(fault),
     }
@@ -107,7 +114,7 @@ fn as_declared(
 ) -> Result<(), LinFault>
     ensures { Answers (λ _. fine) (definition.as_declared x.now side (view_chan t.now) (view_channel channel.now)) result }
 {
-    if channel.side == side && same_chan(&channel.channel_type, t) {
+    if same_side(channel.side, side) && same_chan(&channel.channel_type, t) {
         Ok(())
     } else {
         Err(not_as_declared(alloc, x))

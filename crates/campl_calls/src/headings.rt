@@ -2,7 +2,7 @@
 ghost use Rattle.std.specs.Prelude.{◌≡◌, ◌++◌, [], None, IfOk, OnOk, map};
 ghost use Rattle.campl_tree.specs.View.{view_seq, view_chan, view_process, view_process_row};
 ghost use Rattle.campl_types.specs.Held.{On};
-ghost use Rattle.campl_types.specs.Linear as types;
+ghost use Rattle.campl_types.specs.Linear.{row_variables};
 ghost use Rattle.campl_types.specs.Names.{found};
 ghost use Rattle.campl_vars.specs.Variables.{view_vars};
 ghost use Rattle.campl_seqcheck.specs.Judged.{fine, Is};
@@ -63,7 +63,7 @@ fn row_stands(alloc: Global, p: &ProcessDecl) -> Result<(), LinFault>
 /// The variables and the channels of a row.
 fn entered(alloc: Global, p: &ProcessDecl) -> Result<(Vars, Held), AllocError>
     requires { definition.names_differ [] (definition.idents_of (view_process_row p.now.row)) ≡ Is fine }
-    ensures { IfOk result (λ s. (view_vars s.0, view_held s.1) ≡ (types.row_variables p.now.row.variables (map view_seq p.now.parameters), definition.row_holding (view_process p.now))) }
+    ensures { IfOk result (λ s. (view_vars s.0, view_held s.1) ≡ (row_variables p.now.row.variables (map view_seq p.now.parameters), definition.row_holding (view_process p.now))) }
 {
     let vars = row_variables(alloc, p.row.variables.as_slice(), p.parameters.as_slice())?;
     let held = row_holding(alloc, p)?;
@@ -71,12 +71,8 @@ fn entered(alloc: Global, p: &ProcessDecl) -> Result<(Vars, Held), AllocError>
 }
 
 /// The variables of a row with the types of the heading.
-fn row_variables(
-    alloc: Global,
-    binders: &[Binder],
-    types: &[SeqType],
-) -> Result<Vars, AllocError>
-    ensures { IfOk result (λ vars. view_vars vars ≡ types.row_variables binders.now (map view_seq types.now)) }
+fn row_variables(alloc: Global, binders: &[Binder], types: &[SeqType]) -> Result<Vars, AllocError>
+    ensures { IfOk result (λ vars. view_vars vars ≡ row_variables binders.now (map view_seq types.now)) }
 {
     let mut vars = Vars::new(alloc);
     for i in 0..binders.len().min(types.len()) {
@@ -91,8 +87,20 @@ fn row_holding(alloc: Global, p: &ProcessDecl) -> Result<Held, AllocError>
     ensures { IfOk result (λ held. view_held held ≡ definition.row_holding (view_process p.now)) }
 {
     let mut held = Held::new(alloc);
-    enter(alloc, &mut held, Side::Input, p.row.inputs.as_slice(), p.inputs.as_slice())?;
-    enter(alloc, &mut held, Side::Output, p.row.outputs.as_slice(), p.outputs.as_slice())?;
+    enter(
+        alloc,
+        &mut held,
+        Side::Input,
+        p.row.inputs.as_slice(),
+        p.inputs.as_slice(),
+    )?;
+    enter(
+        alloc,
+        &mut held,
+        Side::Output,
+        p.row.outputs.as_slice(),
+        p.outputs.as_slice(),
+    )?;
     Ok(held)
 }
 

@@ -10,6 +10,7 @@ ghost use Rattle.campl_held.specs.Answered.{Answers, Tells};
 ghost use Rattle.campl_held.specs.Slots.{view_channel, view_held};
 ghost use Rattle.campl_calls.specs.Identities.{identified};
 
+use crate::sides::same_side;
 use campl_held::{Held, HeldChannel, LinFault, find_held, none_left};
 use campl_names::same_chan;
 use campl_tree::{ChanType, Ident, Name, Place};
@@ -87,9 +88,9 @@ fn fit_together(negated: bool, c: &HeldChannel, d: &HeldChannel) -> bool
     ensures { result ≡ definition.fit_together negated (view_channel c.now) (view_channel d.now) }
 {
     if negated {
-        d.side == c.side && is_negation(&c.channel_type, &d.channel_type)
+        same_side(d.side, c.side) && is_negation(&c.channel_type, &d.channel_type)
     } else {
-        d.side == c.side.other() && same_chan(&c.channel_type, &d.channel_type)
+        same_side(d.side, c.side.other()) && same_chan(&c.channel_type, &d.channel_type)
     }
 }
 

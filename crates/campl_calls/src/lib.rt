@@ -4,8 +4,8 @@
 //! its body begins. [`halt`], [`identity`] and [`call`] judge a last command behind which no body follows: it gives up
 //! each channel that is held, and one that is left over is refused.
 //!
-//! In reading order: `headings`, with `naming`, names that differ from one another; `halting`; `identities`; `calling`,
-//! with `handing`, channels handed over.
+//! In reading order: `sides`; `headings`, with `naming`, names that differ from one another; `halting`; `identities`;
+//! `calling`, with `handing`, channels handed over.
 #![tactic(auto)]
 
 mod calling;
@@ -14,6 +14,7 @@ mod handing;
 mod headings;
 mod identities;
 mod naming;
+mod sides;
 
 pub use calling::call;
 pub use halting::halt;

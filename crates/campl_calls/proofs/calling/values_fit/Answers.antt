@@ -18,8 +18,8 @@ loop-i-preserved c =
 pub returns-in-Err-clause-judged : goal.returns-in-Err-clause-judged
 returns-in-Err-clause-judged c =
     seq-stopped _ _ _ _ _ (rw c.loop-i.invariant.kept at c.in-Err.ensures.judged)
-        (values-at (map view_decl c.args.world.now) (view_vars c.args.vars.now) c.args.types.now c.args.values.now c.loop-i.i c.index-values-i.result c.index-types-i.result c.loop-i-test.true c.index-values-i.is c.index-types-i.is)
-        c.loop-i.invariant.told
+    (values-at (map view_decl c.args.world.now) (view_vars c.args.vars.now) c.args.types.now c.args.values.now c.loop-i.i c.index-values-i.result c.index-types-i.result c.loop-i-test.true c.index-values-i.is c.index-types-i.is)
+    c.loop-i.invariant.told
 
 pub returns-clause-judged : goal.returns-clause-judged
 returns-clause-judged c =
