@@ -1,7 +1,7 @@
 -- What a process holds at first, from where a loop stands, and that each name that comes is new.
-use Rattle.std.proofs.Common.{◌≡◌, ◌∙◌, refl, sym, ap, subst, ℕ, ◌+◌, ◌<◌, ◌≤◌, min, leb, Bool, true, false, ◌||◌, true≢false, List, [], ◌∷◌, ◌++◌, append_assoc, append-nil, map, map-append, Some, None, if◌then◌else◌, drop, length, get_or, arith}
+use Rattle.std.proofs.Common.{◌≡◌, ◌∙◌, refl, sym, ap, subst, ℕ, ◌+◌, ◌<◌, ◌≤◌, min, leb, Bool, true, false, ◌||◌, true≢false, List, [], ◌∷◌, ◌++◌, append_assoc, append-nil, map, Some, None, if◌then◌else◌, drop, length, get_or, arith}
 use Rattle.std.proofs.lemmas.Bool.{leb-true, leb-false}
-use Rattle.std.proofs.lemmas.List.{drop_all}
+use Rattle.std.proofs.lemmas.List.{drop_all, map-append}
 use Rattle.campl_tree.specs.declared.place.Ident.{Ident}
 use Rattle.campl_tree.specs.declared.process.Binder.{Binder}
 use Rattle.campl_tree.specs.declared.process.Binder.TheVariants as binder
@@ -83,11 +83,12 @@ stays-noted before (x ∷ xs) y i = stays-noted (x.name ∷ before) xs y (or-sec
 entering-noted : (s : Side) (before : List Name) (xs : List Ident) (ts : List ChanType) → Within (held_names (entering s xs ts)) (noting before xs)
 entering-noted s before [] ts y i = absurd (true≢false (sym i))
 entering-noted s before (x ∷ xs) [] y i = absurd (true≢false (sym i))
-entering-noted s before (x ∷ xs) (t ∷ ts) y i = go (same_name y x.name) refl i
+entering-noted s before (x ∷ xs) (t ∷ ts) y i = go (same_name y x.name) refl i (entering-noted s (x.name ∷ before) xs ts y)
   where
-    go : (b : Bool) → same_name y x.name ≡ b → (b || is_among y (held_names (entering s xs ts))) ≡ true → is_among y (noting (x.name ∷ before) xs) ≡ true
-    go true e j = stays-noted (x.name ∷ before) xs y (or-first (same_name y x.name) (is_among y before) e)
-    go false e j = entering-noted s (x.name ∷ before) xs ts y j
+    go : (b : Bool) → same_name y x.name ≡ b → (b || is_among y (held_names (entering s xs ts))) ≡ true
+        → (is_among y (held_names (entering s xs ts)) ≡ true → is_among y (noting (x.name ∷ before) xs) ≡ true) → is_among y (noting (x.name ∷ before) xs) ≡ true
+    go true e j rest = stays-noted (x.name ∷ before) xs y (or-first (same_name y x.name) (is_among y before) e)
+    go false e j rest = rest j
 
 module _ (row : ProcessRow) (d : Differ [] (idents_of row)) where
   -- the inputs differ from one another
@@ -108,11 +109,11 @@ module _ (row : ProcessRow) (d : Differ [] (idents_of row)) where
 
 not-found : (x : Name) (held : Holding) → is_among x (held_names held) ≡ false → found x held ≡ None
 not-found x [] n = refl
-not-found x (e ∷ held) n = go (same_name x e.0) n
+not-found x (e ∷ held) n = go (same_name x e.0) n (not-found x held)
   where
-    go : (b : Bool) → (b || is_among x (held_names held)) ≡ false → (if b then Some e.1 else found x held) ≡ None
-    go true i = absurd (true≢false i)
-    go false i = not-found x held i
+    go : (b : Bool) → (b || is_among x (held_names held)) ≡ false → (is_among x (held_names held) ≡ false → found x held ≡ None) → (if b then Some e.1 else found x held) ≡ None
+    go true i rest = absurd (true≢false i)
+    go false i rest = rest i
 
 come-behind : (x : Name) (c : Channel) (held : Holding) → Within (held_names (comes x c held)) (x ∷ held_names held)
 come-behind x c held y i = sym (among-behind y x (held_names held)) ∙ ap (is_among y) (sym (map-append (λ (e : Name × Channel). e.0) held ((x, c) ∷ []))) ∙ i

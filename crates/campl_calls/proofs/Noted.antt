@@ -44,11 +44,12 @@ in-three (Fails fault) next last = refl
 
 both-noted : (names : List Name) (xs ys : List Ident) → noted names (xs ++ ys) ≡ and_then (noted names xs) (λ more. noted more ys)
 both-noted names [] ys = refl
-both-noted names (x ∷ xs) ys = go (noted_one names x)
+both-noted names (x ∷ xs) ys = go (noted_one names x) (λ more. both-noted more xs ys)
   where
-    go : (j : Judged LinFault (List Name)) → and_then j (λ more. noted more (xs ++ ys)) ≡ and_then (and_then j (λ more. noted more xs)) (λ more. noted more ys)
-    go (Is more) = both-noted more xs ys
-    go (Fails fault) = refl
+    go : (j : Judged LinFault (List Name)) → ((more : List Name) → noted more (xs ++ ys) ≡ and_then (noted more xs) (λ others. noted others ys))
+        → and_then j (λ more. noted more (xs ++ ys)) ≡ and_then (and_then j (λ more. noted more xs)) (λ more. noted more ys)
+    go (Is more) rest = rest more
+    go (Fails fault) rest = refl
 
 -- The set and the list of the names before
 
@@ -57,13 +58,14 @@ now-same x set before h n y = rw n (among-behind y x set ∙ ap (λ b. same_name
 
 pub differ-noted : (set before : List Name) (xs : List Ident) → HaveSame set before → names_differ before xs ≡ and_then (noted set xs) (λ _. Is fine)
 differ-noted set before [] h = refl
-differ-noted set before (x ∷ xs) h = go (is_among x.name set) refl
+differ-noted set before (x ∷ xs) h = go (is_among x.name set) refl (λ e. differ-noted (with_name x.name set) (x.name ∷ before) xs (now-same x.name set before h e))
   where
-    go : (b : Bool) → is_among x.name set ≡ b
+    go : (b : Bool) → is_among x.name set ≡ b → (is_among x.name set ≡ false → names_differ (x.name ∷ before) xs ≡ and_then (noted (with_name x.name set) xs) (λ _. Is fine))
         → (if is_among x.name before then Fails (Seq (NameTwiceInPattern x.place x.name)) else names_differ (x.name ∷ before) xs)
         ≡ and_then (and_then (noted_one set x) (λ more. noted more xs)) (λ _. Is fine)
-    go true e = rw (sym (h x.name) ∙ e, e) refl
-    go false e = rw (sym (h x.name) ∙ e, e) (differ-noted (with_name x.name set) (x.name ∷ before) xs (now-same x.name set before h e))
+    go true e rest = rw (sym (h x.name) ∙ e, e) refl
+    go false e rest = let now : is_among x.name before ≡ false = sym (h x.name) ∙ e in ap (λ b. if b then Fails (Seq (NameTwiceInPattern x.place x.name)) else names_differ (x.name ∷ before) xs) now ∙ rest e
+        ∙ sym (ap (λ b. and_then (and_then (if b then Fails (Seq (NameTwiceInPattern x.place x.name)) else Is (with_name x.name set)) (λ more. noted more xs)) (λ _. Is fine)) e)
 
 pub row-noted : (row : ProcessRow) → names_differ [] (idents_of row) ≡ and_then (noted_row [] row) (λ _. Is fine)
 row-noted row =

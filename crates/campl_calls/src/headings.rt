@@ -63,7 +63,7 @@ fn row_stands(alloc: Global, p: &ProcessDecl) -> Result<(), LinFault>
 /// The variables and the channels of a row.
 fn entered(alloc: Global, p: &ProcessDecl) -> Result<(Vars, Held), AllocError>
     requires { definition.names_differ [] (definition.idents_of (view_process_row p.now.row)) ≡ Is fine }
-    ensures { IfOk result (λ s. (view_vars s.0, view_held s.1) ≡ (row_variables p.now.row.variables (map view_seq p.now.parameters), definition.row_holding (view_process p.now))) }
+    ensures { IfOk result (λ s. (view_vars s.0 ≡ row_variables p.now.row.variables (map view_seq p.now.parameters)) × (view_held s.1 ≡ definition.row_holding (view_process p.now))) }
 {
     let vars = row_variables(alloc, p.row.variables.as_slice(), p.parameters.as_slice())?;
     let held = row_holding(alloc, p)?;

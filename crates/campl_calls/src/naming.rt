@@ -58,7 +58,8 @@ fn note_all(alloc: Global, names: &mut NameSet, idents: &[Ident]) -> Result<(), 
     ensures { Answers (λ _. names.new) (noted names.old idents.now) result }
 {
     for i in 0..idents.len() {
-        match note(alloc, names, idents[i].place, &idents[i].name) {
+        let x = &idents[i];
+        match note(alloc, names, x.place, &x.name) {
             Ok(()) => {}
             Err(fault) => return Err(fault),
         }

@@ -18,9 +18,9 @@ loop-i-preserved c =
       differ = subst (λ h. names_differ (held_names h) (drop (c.loop-i.i + 1) c.args.names.now) ≡ Is fine) (sym c.in_ok-hold.ensures)
           (differ-more c.args.side c.args.names.now c.args.types.now c.loop-i.i (view_held c.loop-i.held) (On c.args.side (view_chan c.index-types-i.result)) c.index-names-i.result (omega (arith, c.loop-i-test.true)) c.index-names-i.is c.loop-i.invariant.differ);
       entered = ap (λ h. h ++ entering c.args.side (drop (c.loop-i.i + 1) c.args.names.now) (map view_chan (drop (c.loop-i.i + 1) c.args.types.now))) c.in_ok-hold.ensures
-          ∙ entered-more c.args.side c.args.names.now c.args.types.now c.loop-i.i (view_held c.loop-i.held) c.index-names-i.result c.index-types-i.result c.loop-i-test.true c.index-names-i.is c.index-types-i.is
+          ∙ entered-more c.args.side c.args.names.now c.args.types.now c.loop-i.i (view_held c.loop-i.held) c.index-names-i.result c.index-types-i.result (omega (arith, c.loop-i-test.true)) c.index-names-i.is c.index-types-i.is
           ∙ c.loop-i.invariant.entered;
     }
 
 pub returns : goal.returns
-returns c = sym (entered-end c.args.side c.args.names.now c.args.types.now c.loop-i.i (view_held c.loop-i.held) c.loop-i-test.false) ∙ c.loop-i.invariant.entered
+returns c = sym (entered-end c.args.side c.args.names.now c.args.types.now c.loop-i.i (view_held c.loop-i.held) (omega (arith, c.loop-i-test.false))) ∙ c.loop-i.invariant.entered
