@@ -1,8 +1,7 @@
 -- The values of a call, from where a loop stands.
 use Rattle.std.proofs.Common.{◌≡◌, ◌∙◌, refl, sym, ap, ℕ, ◌+◌, ◌<◌, ◌≤◌, min, leb, Bool as Truth, true, false, List, [], ◌∷◌, map, drop, length, get_or, Some, arith}
 use Rattle.std.proofs.lemmas.Bool.{leb-true, leb-false}
-use Rattle.std.proofs.lemmas.List.{drop_all, length-map}
-use Rattle.campl_tree.specs.declared.place.Place.{Place}
+use Rattle.std.proofs.lemmas.List.{drop_all}
 use Rattle.campl_tree.specs.declared.expr.Expr as code
 use Rattle.campl_tree.specs.declared.types.SeqType as code_seq
 use Rattle.campl_tree.specs.Plain.SeqType.{SeqType}
@@ -10,9 +9,8 @@ use Rattle.campl_tree.specs.View.{view_seq, view_expr, exprs}
 use Rattle.campl_types.specs.Fits.{Vars}
 use Rattle.campl_types.specs.World.{World}
 use Rattle.campl_seqcheck.specs.declared.fault.SeqFault.{SeqFault}
-use Rattle.campl_seqcheck.specs.Fitting.{counted}
 use Rattle.campl_seqcheck.specs.Judged.{Fine, fine, Judged, Is, Fails, and_then}
-use Rattle.campl_seqcheck.specs.Judging.{judge, checked, count_of}
+use Rattle.campl_seqcheck.specs.Judging.{judge, checked}
 use Rattle.campl_seqcheck.proofs.Answered.{drop-at}
 use Rattle.campl_seqcheck.proofs.Turns.{count-args}
 use Rattle.campl_linear.specs.Calls.{values_fit}
@@ -45,7 +43,5 @@ module _ (w : World) (vs : Vars) where
             let more : i < length types = leb-false (length types) i e in let less : length values ≤ i = omega (arith, l, more) in
             ap (λ xs. values_fit w vs (map view_seq (drop i types)) (exprs (map view_expr xs))) (drop_all i values less) ∙ no-values (map view_seq (drop i types))
 
--- the number of the values, and of their types
-pub as-counted : (at : Place) (values : List code.Expr) (types : List code_seq.SeqType)
-    → counted at (count_of (exprs (map view_expr values))) (length (map view_seq types)) ≡ counted at (length values) (length types)
-as-counted at values types = ap (λ n. counted at n (length (map view_seq types))) (count-args values) ∙ ap (λ n. counted at (length values) n) (length-map types view_seq)
+-- the number of the values
+pub ruleset counting = (count-args)

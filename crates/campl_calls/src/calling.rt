@@ -50,6 +50,7 @@ pub fn call(
 }
 
 /// The same for the process that is called.
+#[tactic(auto, using(campl_held::proofs::Told::sequential, crate::proofs::Values::counting))]
 fn call_process(
     alloc: Global,
     world: &World,

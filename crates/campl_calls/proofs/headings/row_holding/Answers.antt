@@ -9,4 +9,4 @@ enter-requires c = rw (c.new-held.ensures, c.as_slice.ensures) (inputs-differ (v
 pub enter-requires-2 : goal.enter-requires-2
 enter-requires-2 c =
     rw (c.in_ok-enter.ensures, c.new-held.ensures, c.as_slice.ensures, c.as_slice-3.ensures)
-        (outputs-differ (view_process_row c.args.p.now.row) c.requires (map view_chan c.as_slice-2.result.now))
+    (outputs-differ (view_process_row c.args.p.now.row) c.requires (map view_chan c.as_slice-2.result.now))

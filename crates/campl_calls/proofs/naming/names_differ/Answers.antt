@@ -13,4 +13,4 @@ returns-in-Ok c = row-noted (view_process_row c.args.row.now) ∙ ap (λ j. and_
 pub returns : goal.returns
 returns c =
     subst (λ j. Refused j c.in-Err.fault) (sym (row-noted (view_process_row c.args.row.now)))
-        (stopped (noted_row [] (view_process_row c.args.row.now)) (λ _. Is fine) c.in-Err.fault (rw c.new-names.ensures at c.in-Err.ensures))
+    (stopped (noted_row [] (view_process_row c.args.row.now)) (λ _. Is fine) c.in-Err.fault (rw c.new-names.ensures at c.in-Err.ensures))
