@@ -6,7 +6,7 @@ use Rattle.campl_tree.specs.declared.place.Ident.{Ident}
 use Rattle.campl_tree.specs.declared.process.Binder.{Binder}
 use Rattle.campl_tree.specs.declared.process.Binder.TheVariants as binder
 use Rattle.campl_tree.specs.declared.service.Side.{Side}
-use Rattle.campl_tree.specs.declared.service.Side.TheVariants.{Input, Output}
+use Rattle.campl_tree.specs.declared.service.Side.TheVariants.{Input}
 use Rattle.campl_tree.specs.declared.types.ChanType as code
 use Rattle.campl_tree.specs.declared.types.SeqType as code_seq
 use Rattle.campl_tree.specs.Plain.ChanType.{ChanType}
@@ -17,13 +17,12 @@ use Rattle.campl_types.specs.Names.{Name, same_name, is_among, found, Within}
 use Rattle.campl_types.specs.Fits.{Vars}
 use Rattle.campl_types.specs.Held.{Channel, On}
 use Rattle.campl_types.specs.Linear.{bound, row_variables}
-use Rattle.campl_types.proofs.Names.{among-append}
 use Rattle.campl_types.proofs.Truth.{or-first, or-second, as-false, no-both}
 use Rattle.campl_names.proofs.Declared.{among-behind}
 use Rattle.campl_seqcheck.specs.declared.fault.SeqFault.TheVariants.{NameTwiceInPattern}
-use Rattle.campl_seqcheck.specs.Judged.{Fine, fine, Judged, Is, Fails}
+use Rattle.campl_seqcheck.specs.Judged.{fine, Is, Fails}
 use Rattle.campl_seqcheck.proofs.Answered.{drop-at}
-use Rattle.campl_linear.specs.Faults.{LinFault, Seq}
+use Rattle.campl_linear.specs.Faults.{Seq}
 use Rattle.campl_linear.specs.Holding.{Holding, comes}
 use Rattle.campl_linear.specs.Processes.{variables_bound, idents_of, names_differ, entering}
 use Rattle.campl_calls.specs.Headings.{held_names}

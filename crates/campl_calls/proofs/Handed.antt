@@ -1,8 +1,7 @@
 -- The channels of a call, from where a loop stands.
-use Rattle.std.proofs.Common.{◌≡◌, ◌∙◌, refl, sym, ap, ℕ, ◌+◌, ◌<◌, ◌≤◌, min, leb, Bool, true, false, List, [], ◌∷◌, map, drop, length, get_or, arith}
+use Rattle.std.proofs.Common.{◌≡◌, ◌∙◌, refl, ap, ℕ, ◌+◌, ◌<◌, ◌≤◌, min, leb, Bool, true, false, List, [], ◌∷◌, map, drop, length, get_or, arith}
 use Rattle.std.proofs.lemmas.Bool.{leb-true, leb-false}
-use Rattle.std.proofs.lemmas.List.{drop_all, length-map}
-use Rattle.campl_tree.specs.declared.place.Place.{Place}
+use Rattle.std.proofs.lemmas.List.{drop_all}
 use Rattle.campl_tree.specs.declared.place.Ident.{Ident}
 use Rattle.campl_tree.specs.declared.service.Side.{Side}
 use Rattle.campl_tree.specs.declared.types.ChanType as code
@@ -14,7 +13,7 @@ use Rattle.campl_seqcheck.proofs.Answered.{drop-at}
 use Rattle.campl_linear.specs.Faults.{LinFault}
 use Rattle.campl_linear.specs.Holding.{Holding, given_up}
 use Rattle.campl_linear.specs.Channels.{held_at}
-use Rattle.campl_linear.specs.Calls.{as_many, as_declared, handed}
+use Rattle.campl_linear.specs.Calls.{as_declared, handed}
 use Rattle.campl_calls.specs.Handing.{handed_one}
 
 -- a channel that is handed over, and what comes next

@@ -1,5 +1,6 @@
 mod Turns
 mod Values
+mod Called
 mod Handed
 mod Noted
 mod Entered

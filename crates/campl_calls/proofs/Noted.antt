@@ -9,7 +9,7 @@ use Rattle.campl_types.specs.Names.{Name, same_name, is_among}
 use Rattle.campl_names.specs.NameSet.{with_name, HaveSame}
 use Rattle.campl_names.proofs.Declared.{among-behind}
 use Rattle.campl_seqcheck.specs.declared.fault.SeqFault.TheVariants.{NameTwiceInPattern}
-use Rattle.campl_seqcheck.specs.Judged.{Fine, fine, Judged, Is, Fails, and_then}
+use Rattle.campl_seqcheck.specs.Judged.{fine, Judged, Is, Fails, and_then}
 use Rattle.campl_seqcheck.proofs.Answered.{drop-at}
 use Rattle.campl_linear.specs.Faults.{LinFault, Seq}
 use Rattle.campl_linear.specs.Processes.{variables_bound, idents_of, names_differ}

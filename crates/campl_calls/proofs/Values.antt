@@ -1,5 +1,5 @@
 -- The values of a call, from where a loop stands.
-use Rattle.std.proofs.Common.{◌≡◌, ◌∙◌, refl, sym, ap, ℕ, ◌+◌, ◌<◌, ◌≤◌, min, leb, Bool as Truth, true, false, List, [], ◌∷◌, map, drop, length, get_or, Some, arith}
+use Rattle.std.proofs.Common.{◌≡◌, ◌∙◌, refl, ap, ℕ, ◌+◌, ◌<◌, ◌≤◌, min, leb, Bool as Truth, true, false, List, [], ◌∷◌, map, drop, length, get_or, Some, arith}
 use Rattle.std.proofs.lemmas.Bool.{leb-true, leb-false}
 use Rattle.std.proofs.lemmas.List.{drop_all}
 use Rattle.campl_tree.specs.declared.expr.Expr as code
@@ -12,7 +12,6 @@ use Rattle.campl_seqcheck.specs.declared.fault.SeqFault.{SeqFault}
 use Rattle.campl_seqcheck.specs.Judged.{Fine, fine, Judged, Is, Fails, and_then}
 use Rattle.campl_seqcheck.specs.Judging.{judge, checked}
 use Rattle.campl_seqcheck.proofs.Answered.{drop-at}
-use Rattle.campl_seqcheck.proofs.Turns.{count-args}
 use Rattle.campl_linear.specs.Calls.{values_fit}
 
 -- a value that is judged, and checked
@@ -42,6 +41,3 @@ module _ (w : World) (vs : Vars) where
         go false e =
             let more : i < length types = leb-false (length types) i e in let less : length values ≤ i = omega (arith, l, more) in
             ap (λ xs. values_fit w vs (map view_seq (drop i types)) (exprs (map view_expr xs))) (drop_all i values less) ∙ no-values (map view_seq (drop i types))
-
--- the number of the values
-pub ruleset counting = (count-args)

@@ -25,10 +25,11 @@ use std::alloc::Global;
 ///
 /// # Errors
 ///
-/// `CallChannels` without a name for a name of no process; the fault `ArgumentCount` for another number of values than
-/// is declared, and then the first fault of the values; `CallChannels` without a name for another number of inputs or
-/// of outputs. Then in order, inputs first, `NotHeld` of a channel that isn't held, and `CallChannels` with its name of
-/// one of another side or type; at last `LeftOver` of the first channel that is left. `OutOfMemory` where memory wants.
+/// `CallChannels` without a name (E50) for a name of no process; `Seq` of `ArgumentCount` (E33) for another number of
+/// values than is declared, and then of the first fault of the values (E30 to E34); `CallChannels` without a name for
+/// another number of inputs, or of outputs. Then in order, inputs first, `NotHeld` (E40) of a channel that isn't held,
+/// and `CallChannels` with its name of one of another side or type; at last `LeftOver` (E41) of the first channel that
+/// is left. `OutOfMemory` where memory wants.
 pub fn call(
     alloc: Global,
     world: &World,
@@ -50,7 +51,6 @@ pub fn call(
 }
 
 /// The same for the process that is called.
-#[tactic(auto, using(campl_held::proofs::Told::sequential, crate::proofs::Values::counting))]
 fn call_process(
     alloc: Global,
     world: &World,

@@ -16,8 +16,8 @@ use std::alloc::Global;
 ///
 /// # Errors
 ///
-/// `NotHeld` of a named channel that isn't held, `WrongAction` of one whose type doesn't end, and `LeftOver` of the
-/// first other channel that is held; `OutOfMemory` where memory wants.
+/// `NotHeld` (E40) of a named channel that isn't held, `WrongAction` (E42) of one whose type doesn't end, and `LeftOver`
+/// (E41) of the first other channel that is held; `OutOfMemory` where memory wants.
 pub fn halt(
     alloc: Global,
     world: &World,

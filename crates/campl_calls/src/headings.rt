@@ -25,9 +25,9 @@ use std::alloc::{AllocError, Global};
 ///
 /// # Errors
 ///
-/// All at the row but for the first: the fault `NameTwiceInPattern` at a name that stands a second time among variables,
-/// inputs and outputs; `ArgumentCount` for another number of variables than of types in the heading, and `CallChannels`
-/// without a name for another number of inputs or of outputs. `OutOfMemory` where memory wants.
+/// `Seq` of `NameTwiceInPattern` (E34) at a name that stands a second time among variables, inputs and outputs. Then,
+/// at the row, `Seq` of `ArgumentCount` (E33) for another number of variables than of types in the heading, and
+/// `CallChannels` without a name (E50) for another number of inputs, or of outputs. `OutOfMemory` where memory wants.
 pub fn heading(alloc: Global, p: &ProcessDecl) -> Result<(Vars, Held), LinFault>
     ensures { Answers (λ s. (view_vars s.0, view_held s.1)) (headed (view_process p.now)) result }
 {

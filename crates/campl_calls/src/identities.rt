@@ -21,8 +21,8 @@ use std::alloc::Global;
 ///
 /// # Errors
 ///
-/// `NotHeld` of the first of both that isn't held, `LeftOver` of the first other channel that is held, and
-/// `IdentityType` where both are one channel or don't fit together: without `neg` they have one type on opposite
+/// `NotHeld` (E40) of the first of both that isn't held, `LeftOver` (E41) of the first other channel that is held, and
+/// `IdentityType` (E49) where both are one channel or don't fit together: without `neg` they have one type on opposite
 /// sides, with it x has the type `Neg(T)` and y the type T on the same side. `OutOfMemory` where memory wants.
 pub fn identity(
     alloc: Global,

@@ -1,4 +1,4 @@
-use Rattle.std.proofs.Common.{◌∙◌, refl, sym, map, arith}
+use Rattle.std.proofs.Common.{◌∙◌, sym, map, arith}
 use Rattle.campl_tree.specs.View.{view_decl}
 use Rattle.campl_vars.specs.Variables.{view_vars}
 use Rattle.campl_seqcheck.proofs.Answered.{loop-went}
