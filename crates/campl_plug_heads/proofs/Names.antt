@@ -2,6 +2,7 @@
 use Rattle.std.proofs.Common.{◌≡◌, ◌∙◌, refl, sym, ap, subst, ◌⊎◌, inl, inr, ℕ, zero, suc, ◌+◌, arith, Bool, true, false, ◌||◌, or_assoc, true≢false, if◌then◌else◌, List, [], ◌∷◌, ◌++◌, Option, Some, None, map}
 use Rattle.std.proofs.lemmas.List.{map-append}
 use Rattle.campl_tree.specs.declared.place.Ident.{Ident}
+use Rattle.campl_tree.proofs.Views.{view_part-out}
 use Rattle.campl_tree.specs.Plain.Process.{Header, Parts, no_parts, part_then}
 use Rattle.campl_types.specs.Names.{Name, same_name, is_among, found}
 use Rattle.campl_types.specs.World.{names_of}
@@ -9,6 +10,7 @@ use Rattle.campl_types.proofs.Names.{among-append, split-names, same-itself, or-
 use Rattle.campl_names.specs.NameSet.{HaveSame, with_name}
 use Rattle.campl_names.specs.Scope.{with_names}
 use Rattle.campl_names.proofs.Declared.{among-behind}
+use Rattle.campl_names.proofs.Sets.{lookup-found, some-among, entry-behind}
 use Rattle.campl_plug_heads.specs.Heads.{Numbered, names_in, marked, numbered, all_names}
 
 or-turn : (a b c : Bool) → (a || (b || c)) ≡ (b || (a || c))
@@ -50,3 +52,11 @@ same-set us x = among-names x [] us ∙ or-nothing (is_among x us)
     or-nothing : (b : Bool) → (b || false) ≡ b
     or-nothing true = refl
     or-nothing false = refl
+
+pub with-append : (xs ys zs : List Name) → with_names xs (ys ++ zs) ≡ with_names (with_names xs ys) zs
+with-append xs [] zs = refl
+with-append xs (y ∷ ys) zs = with-append (with_name y xs) ys zs
+
+pub ruleset maps = (lookup-found, some-among, entry-behind)
+
+pub ruleset headers = (view_part-out, with-append)

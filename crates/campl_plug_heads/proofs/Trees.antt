@@ -101,3 +101,5 @@ module _ (links : List Link) (ps : Parts) (some : 1 ≤ count ps) (within : All 
 
   pub apart-told : (p : ℕ) → IsFaultOf (count ps) (joined_parts links ps) (plug.Apart p) → parts_form_tree links ps ≡ is_apart p (part_at ps p)
   apart-told p is = told (plug.Apart p) (λ e. cc e) is
+
+pub ruleset trees = (joined-is, count-is, tree-stands, cycle-told, apart-told)

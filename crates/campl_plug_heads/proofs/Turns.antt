@@ -27,7 +27,7 @@ use Rattle.campl_held.specs.Answered.{Refused}
 use Rattle.campl_held.proofs.Told.{stopped}
 use Rattle.campl_plug_heads.specs.Heads.{Numbered, names_in, marked, numbered, all_names, link_stands, name_stands, header_stands, links_join, joined_in, end_in, ends_in}
 use Rattle.campl_plug_heads.proofs.Same.{regroup, same-last, same-turned, links-same, names-same, headers-same, headers-step}
-use Rattle.campl_plug_heads.proofs.Names.{among-names, names-marked, names-append}
+use Rattle.campl_plug_heads.proofs.Names.{among-names, names-marked, names-append, with-append}
 
 -- One turn of a loop
 
@@ -137,10 +137,8 @@ pub all-at : (ps : List Part) (i : ℕ) (set : List Name) (p : Part) → i < len
 all-at ps i set p l is =
     sym (with-append set (names_of (view_part p).0.outputs ++ names_of (view_part p).0.inputs) (all_names (parts (map view_part (drop (i + 1) ps)))))
     ∙ ap (λ qs. with_names set (all_names (parts (map view_part qs)))) (sym (drop-at ps i p l is))
-  where
-    with-append : (xs ys zs : List Name) → with_names xs (ys ++ zs) ≡ with_names (with_names xs ys) zs
-    with-append xs [] zs = refl
-    with-append xs (y ∷ ys) zs = with-append (with_name y xs) ys zs
 
 pub all-end : (ps : List Part) (i : ℕ) (set : List Name) → length ps ≤ i → with_names set (all_names (parts (map view_part (drop i ps)))) ≡ set
 all-end ps i set l = ap (λ qs. with_names set (all_names (parts (map view_part qs)))) (drop_all i ps l)
+
+pub ruleset all = (all-at, all-end)

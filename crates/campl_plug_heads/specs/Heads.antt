@@ -1,6 +1,7 @@
 -- What stands in the headers of a plug, as code takes it in.
 use Rattle.std.specs.Prelude.{◌≡◌, ℕ, ◌+◌, Bool, true, ◌&&◌, List, [], ◌∷◌, ◌++◌, Option, Some, None, if◌then◌else◌, map}
 use Rattle.campl_plug.specs.declared.plug.Link as numbers
+use Rattle.campl_tree.specs.declared.place.Place.{Place}
 use Rattle.campl_tree.specs.declared.place.Ident.{Ident}
 use Rattle.campl_tree.specs.declared.service.Side.{Side}
 use Rattle.campl_tree.specs.declared.service.Side.TheVariants.{Input, Output}
@@ -9,12 +10,12 @@ use Rattle.campl_tree.specs.Plain.Process.{Link, Header, Parts, no_parts, part_t
 use Rattle.campl_types.specs.Names.{Name, is_among, are_distinct, found}
 use Rattle.campl_types.specs.World.{names_of}
 use Rattle.campl_types.specs.Held.{On}
-use Rattle.campl_types.specs.Headers.{Links, link_names}
+use Rattle.campl_types.specs.Headers.{Links, links_in, link_names}
 use Rattle.campl_seqcheck.specs.Judged.{Fine, fine, Judged, Is, Fails, and_then}
 use Rattle.campl_linear.specs.Faults.{LinFault, PlugUse}
 use Rattle.campl_linear.specs.Holding.{Holding}
 use Rattle.campl_linear.specs.Channels.{new_name}
-use Rattle.campl_linear.specs.Plugs.{stands_once, may_stand, names_stand}
+use Rattle.campl_linear.specs.Plugs.{stands_once, may_stand, names_stand, headers_stand, links_are_used, all_are_used, parts_form_tree}
 
 -- names with the numbers of the parts in whose headers they stand
 abbrev pub Numbered : Type 0
@@ -95,3 +96,17 @@ ends_in outputs names (l ∷ ls) = end_in outputs names l ++ ends_in outputs nam
 pub record LinksStand (links : List Link) (held : Holding) : Type 0 where
   pub distinct : are_distinct (link_names links) ≡ true
   pub new : (x : Name) → is_among x (link_names links) ≡ true → found x held ≡ None
+
+-- Steps 4 to 7 of a plug, and 3 to 7
+
+abbrev pub ends_stand : Place → List Link → Parts → Holding → Judged LinFault Fine
+ends_stand at links parts held =
+    and_then (links_are_used links parts) (λ _. and_then (all_are_used at held parts) (λ _. parts_form_tree links parts))
+
+abbrev pub heads_stand : Place → List Link → Parts → Holding → Judged LinFault Fine
+heads_stand at links parts held = and_then (headers_stand (links_in links) held [] [] parts) (λ _. ends_stand at links parts held)
+
+-- behind steps 2 and 3
+pub record HeadersStand (links : List Link) (parts : Parts) (held : Holding) : Type 0 where
+  pub links_stand : LinksStand links held
+  pub headers : headers_stand (links_in links) held [] [] parts ≡ Is fine
