@@ -10,6 +10,7 @@ use Rattle.campl_types.proofs.Names.{among-append, split-names, same-itself, or-
 use Rattle.campl_names.specs.NameSet.{HaveSame, with_name}
 use Rattle.campl_names.specs.Scope.{with_names}
 use Rattle.campl_names.proofs.Declared.{among-behind}
+use Rattle.campl_names.proofs.Scopes.{with-append}
 use Rattle.campl_names.proofs.Sets.{lookup-found, some-among, entry-behind}
 use Rattle.campl_plug_heads.specs.Heads.{Numbered, names_in, marked, numbered, all_names}
 
@@ -52,10 +53,6 @@ same-set us x = among-names x [] us ∙ or-nothing (is_among x us)
     or-nothing : (b : Bool) → (b || false) ≡ b
     or-nothing true = refl
     or-nothing false = refl
-
-pub with-append : (xs ys zs : List Name) → with_names xs (ys ++ zs) ≡ with_names (with_names xs ys) zs
-with-append xs [] zs = refl
-with-append xs (y ∷ ys) zs = with-append (with_name y xs) ys zs
 
 pub ruleset maps = (lookup-found, some-among, entry-behind)
 

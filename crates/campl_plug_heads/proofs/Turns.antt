@@ -15,6 +15,7 @@ use Rattle.campl_types.proofs.Names.{among-append}
 use Rattle.campl_types.proofs.Truth.{or-none}
 use Rattle.campl_names.specs.NameSet.{HaveSame, with_name}
 use Rattle.campl_names.specs.Scope.{with_names}
+use Rattle.campl_names.proofs.Scopes.{with-append}
 use Rattle.campl_seqcheck.specs.Judged.{Fine, fine, Judged, Is, Fails, and_then}
 use Rattle.campl_linear.specs.Faults as plain
 use Rattle.campl_linear.specs.Holding.{Holding}
@@ -27,7 +28,7 @@ use Rattle.campl_held.specs.Answered.{Refused}
 use Rattle.campl_held.proofs.Told.{stopped}
 use Rattle.campl_plug_heads.specs.Heads.{Numbered, names_in, marked, numbered, all_names, link_stands, name_stands, header_stands, links_join, joined_in, end_in, ends_in}
 use Rattle.campl_plug_heads.proofs.Same.{regroup, same-last, same-turned, links-same, names-same, headers-same, headers-step}
-use Rattle.campl_plug_heads.proofs.Names.{among-names, names-marked, names-append, with-append}
+use Rattle.campl_plug_heads.proofs.Names.{among-names, names-marked, names-append}
 
 -- One turn of a loop
 
