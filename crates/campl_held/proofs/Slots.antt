@@ -256,13 +256,15 @@ those-both f (e ∷ h) k = go (f e.0) (those-both f h k)
 
 none-of-those : (f : Name → Bool) (x : Name) (h : Holding) → found x h ≡ None → found x (those f h) ≡ None
 none-of-those f x [] i = refl
-none-of-those f x (e ∷ h) i = go (f e.0) (same_name x e.0) i (λ j. none-of-those f x h j)
+none-of-those f x (e ∷ h) i = go (same_name x e.0) refl i (λ j. none-of-those f x h j)
   where
-    go : (b c : Bool) → (if c then Some e.1 else found x h) ≡ None → (found x h ≡ None → found x (those f h) ≡ None) → found x (if b then e ∷ those f h else those f h) ≡ None
-    go true true j later = absurd (let none : ⊥ = cc in none)
-    go false true j later = absurd (let none : ⊥ = cc in none)
-    go true false j later = later j
-    go false false j later = later j
+    kept : (b : Bool) → same_name x e.0 ≡ false → found x (those f h) ≡ None → found x (if b then e ∷ those f h else those f h) ≡ None
+    kept true s j = rw s j
+    kept false s j = j
+
+    go : (c : Bool) → same_name x e.0 ≡ c → (if c then Some e.1 else found x h) ≡ None → (found x h ≡ None → found x (those f h) ≡ None) → found x (if f e.0 then e ∷ those f h else those f h) ≡ None
+    go true s j later = absurd (let none : ⊥ = cc in none)
+    go false s j later = kept (f e.0) s (later j)
 
 -- what stands before a channel hasn't its name, and fewer haven't either
 pub apart-kept : (f : Name → Bool) (s : List Slot) (i : ℕ) (g : HeldChannel) → AreOnce s → i < length s → Some g ≡ get_or s i (Some g) → found g.name (those f (view_held (live (take i s)))) ≡ None

@@ -1,6 +1,9 @@
 -- The constructors of a named type, found among its choices and by what they are declared to be.
 use Rattle.std.specs.Prelude.{◌≡◌, Bool, false, List, [], map, Option, Some, None}
+use Rattle.campl_tree.specs.declared.decl.ProtocolConstructor.{ProtocolConstructor}
+use Rattle.campl_tree.specs.declared.decl.CoprotocolConstructor.{CoprotocolConstructor}
 use Rattle.campl_tree.specs.Plain.SeqType.{SeqType}
+use Rattle.campl_tree.specs.Plain.ChanType.{ChanType}
 use Rattle.campl_tree.specs.View.{view_seq}
 use Rattle.campl_types.specs.Names.{Name, same_name, found}
 use Rattle.campl_types.specs.World.{World, TypeEntry, DataType, ProtocolType, CoprotocolType, type_named, ConstructorEntry, OfData, OfProtocol, OfCoprotocol}
@@ -33,8 +36,8 @@ pub record ChoicesAreDeclared (w : World) : Type 0 where
 
 -- the names in declared order
 abbrev pub choice_names : Choices → List Name
-choice_names = map (λ (c : Name × _). c.0)
+choice_names = map (λ (c : Name × ChanType). c.0)
 
 abbrev pub view_lines : Lines → List Name
-view_lines (lines.Protocol ks) = map (λ k. k.name.name) ks.now
-view_lines (lines.Coprotocol ks) = map (λ k. k.name.name) ks.now
+view_lines (lines.Protocol ks) = map (λ (k : ProtocolConstructor). k.name.name) ks.now
+view_lines (lines.Coprotocol ks) = map (λ (k : CoprotocolConstructor). k.name.name) ks.now

@@ -52,10 +52,10 @@ pub fn used_to_put<'a>(
         Err(fault) => return Err(fault),
     };
     match sent(world, &channel.channel_type, channel.side) {
-        Some((value, rest)) => Ok(Message {
+        Some(parts) => Ok(Message {
             channel,
-            value,
-            rest,
+            value: parts.0,
+            rest: parts.1,
         }),
         None => Err(wrong_action(alloc, at, &x.name, channel)),
     }
@@ -80,10 +80,10 @@ pub fn used_to_get<'a>(
         Err(fault) => return Err(fault),
     };
     match received(world, &channel.channel_type, channel.side) {
-        Some((value, rest)) => Ok(Message {
+        Some(parts) => Ok(Message {
             channel,
-            value,
-            rest,
+            value: parts.0,
+            rest: parts.1,
         }),
         None => Err(wrong_action(alloc, at, &x.name, channel)),
     }
@@ -169,10 +169,10 @@ pub fn used_to_split<'a>(
         Err(fault) => return Err(fault),
     };
     match halved(world, &channel.channel_type, channel.side) {
-        Some((first, second)) => Ok(Halves {
+        Some(parts) => Ok(Halves {
             channel,
-            first,
-            second,
+            first: parts.0,
+            second: parts.1,
         }),
         None => Err(wrong_action(alloc, at, &x.name, channel)),
     }
@@ -197,10 +197,10 @@ pub fn used_to_fork<'a>(
         Err(fault) => return Err(fault),
     };
     match forked(world, &channel.channel_type, channel.side) {
-        Some((first, second)) => Ok(Halves {
+        Some(parts) => Ok(Halves {
             channel,
-            first,
-            second,
+            first: parts.0,
+            second: parts.1,
         }),
         None => Err(wrong_action(alloc, at, &x.name, channel)),
     }

@@ -164,7 +164,8 @@ impl Held {
     pub fn copy(&self, alloc: Global) -> Result<Held, AllocError>
         ensures { IfOk result (λ h. view_held h ≡ view_held self.now) }
     {
-        self.those(alloc, &NameSet::new(alloc), false)
+        let nothing = NameSet::new(alloc);
+        self.those(alloc, &nothing, false)
     }
 }
 
