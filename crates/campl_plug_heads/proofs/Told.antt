@@ -30,6 +30,8 @@ use Rattle.campl_held.proofs.Told.{refused, stopped}
 use Rattle.campl_plug_heads.specs.Heads.{Numbered, links_named, numbered, links_join, LinksStand, HeadersStand}
 use Rattle.campl_plug_heads.proofs.Trees.{link-is, part-is}
 use Rattle.campl_plug_heads.proofs.Uses.{links-join}
+use Rattle.campl_plug_heads.proofs.Same.{headers-are}
+use Rattle.campl_plug_heads.proofs.Shares.{links-stand}
 
 pub ruleset refusals = (refused, stopped, among-append)
 
@@ -76,4 +78,9 @@ used-are links ps held ins outs s i j =
     links-join (links_in links) held ps (headers-so (links_in links) held [] [] ps fine s.headers) links
     ∙ ap (λ (z : Numbered). links_join z (numbered outputs_in 1 ps) links) (sym i) ∙ ap (λ (z : Numbered). links_join ins z links) (sym j)
 
-pub ruleset steps = (stopped, within, used-are)
+-- headers are judged by the names of links
+pub stand-headers : (links : List Link) (names : List Name) (held : Holding) (ps : Parts) → LinksStand links held → names ≡ with_names [] (link_names links)
+    → headers_stand (links_named names) held [] [] ps ≡ Is fine → HeadersStand links ps held
+stand-headers links names held ps s i j = record { links_stand = s; headers = headers-are links names held ps i ∙ j }
+
+pub ruleset steps = (stopped, within, used-are, stand-headers, headers-are, links-stand)

@@ -26,7 +26,7 @@ use Rattle.campl_linear.proofs.Headers.{once-so}
 use Rattle.campl_held.specs.declared.fault.LinFault.{LinFault}
 use Rattle.campl_held.specs.Answered.{Refused}
 use Rattle.campl_held.proofs.Told.{stopped}
-use Rattle.campl_plug_heads.specs.Heads.{Numbered, names_in, marked, numbered, all_names, link_stands, name_stands, header_stands, links_join, joined_in, end_in, ends_in}
+use Rattle.campl_plug_heads.specs.Heads.{Numbered, names_in, marked, numbered, all_names, link_stands, name_stands, header_stands, link_joins, links_join}
 use Rattle.campl_plug_heads.proofs.Same.{regroup, same-last, same-turned, links-same, names-same, headers-same, headers-step}
 use Rattle.campl_plug_heads.proofs.Names.{among-names, names-marked, names-append}
 
@@ -69,6 +69,14 @@ seen-at links i seen l n is = ap (λ ls. with_names seen (link_names (map view_l
 
 pub seen-end : (links : List code.Link) (i : ℕ) (seen : List Name) → length links ≤ i → with_names seen (link_names (map view_link (drop i links))) ≡ seen
 seen-end links i seen n = ap (λ ls. with_names seen (link_names (map view_link ls))) (drop_all i links n)
+
+module _ (ins outs : Numbered) (links : List code.Link) (i : ℕ) where
+  pub join-at : (l : code.Link) → i < length links → l ≡ get_or links i l
+      → links_join ins outs (map view_link (drop i links)) ≡ and_then (link_joins ins outs l.name) (λ _. links_join ins outs (map view_link (drop (i + 1) links)))
+  join-at l n is = ap (λ ls. links_join ins outs (map view_link ls)) (drop-at links i l n is)
+
+  pub join-end : length links ≤ i → links_join ins outs (map view_link (drop i links)) ≡ Is fine
+  join-end n = ap (λ ls. links_join ins outs (map view_link ls)) (drop_all i links n)
 
 -- Names of a header
 

@@ -13,7 +13,7 @@ use Rattle.campl_types.proofs.Truth.{or-split, or-none}
 use Rattle.campl_peel.specs.Numbered.{inputs_in, outputs_in}
 use Rattle.campl_names.specs.NameSet.{HaveSame}
 use Rattle.campl_names.specs.Scope.{with_names}
-use Rattle.campl_seqcheck.specs.Judged.{Fine, fine, Judged, Is, Fails}
+use Rattle.campl_seqcheck.specs.Judged.{Fine, fine, Judged, Is, Fails, and_then}
 use Rattle.campl_linear.specs.Faults.{LinFault, PlugUse, LeftOver}
 use Rattle.campl_linear.specs.Holding.{Holding, those}
 use Rattle.campl_linear.specs.Channels.{none_left}
@@ -89,7 +89,13 @@ module _ (links : Links) (held : Holding) (parts : Parts) (stand : Stand links h
   links-join [] = refl
   links-join (l ∷ ls) =
       ap (λ (z : Bool). if z then links_are_used ls parts else Fails (PlugUse l.name.place l.name.name)) (twice-is l.name.name)
-      ∙ ap (λ (z : Judged LinFault Fine). if is_among l.name.name (names_in (numbered inputs_in 1 parts)) && is_among l.name.name (names_in (numbered outputs_in 1 parts)) then z else Fails (PlugUse l.name.place l.name.name)) (links-join ls)
+      ∙ go (is_among l.name.name (names_in (numbered inputs_in 1 parts)) && is_among l.name.name (names_in (numbered outputs_in 1 parts))) (links-join ls)
+    where
+      go : (b : Bool) → links_are_used ls parts ≡ links_join (numbered inputs_in 1 parts) (numbered outputs_in 1 parts) ls
+          → (if b then links_are_used ls parts else Fails (PlugUse l.name.place l.name.name))
+          ≡ and_then (if b then Is fine else Fails (PlugUse l.name.place l.name.name)) (λ _. links_join (numbered inputs_in 1 parts) (numbered outputs_in 1 parts) ls)
+      go true i = i
+      go false i = refl
 
 -- Held channels
 

@@ -64,13 +64,14 @@ abbrev pub header_stands : Links → Holding → (inputs outputs : List Name) �
 header_stands links held inputs outputs h =
     and_then (names_stand links held Input inputs h.inputs) (λ _. names_stand links held Output (names_of h.inputs ++ outputs) h.outputs)
 
--- each link stands on both sides
+-- a link stands on both sides
+abbrev pub link_joins : (inputs outputs : Numbered) → Ident → Judged LinFault Fine
+link_joins inputs outputs x = if is_among x.name (names_in inputs) && is_among x.name (names_in outputs) then Is fine else Fails (PlugUse x.place x.name)
+
+-- each link does
 abbrev pub links_join : (inputs outputs : Numbered) → List Link → Judged LinFault Fine
 links_join inputs outputs [] = Is fine
-links_join inputs outputs (l ∷ ls) =
-    if is_among l.name.name (names_in inputs) && is_among l.name.name (names_in outputs)
-    then links_join inputs outputs ls
-    else Fails (PlugUse l.name.place l.name.name)
+links_join inputs outputs (l ∷ ls) = and_then (link_joins inputs outputs l.name) (λ _. links_join inputs outputs ls)
 
 -- the parts that a link joins
 abbrev pub joined_in : (inputs outputs : Numbered) → Link → numbers.Link

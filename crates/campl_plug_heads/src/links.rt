@@ -1,15 +1,14 @@
 //! What is judged of a plug's links beside the tree.
-ghost use Rattle.std.specs.Prelude.{◌≡◌, [], ◌&&◌, IfOk, if◌then◌else◌, map};
+ghost use Rattle.std.specs.Prelude.{◌≡◌, [], IfOk, map};
 ghost use Rattle.campl_tree.specs.View.{view_link};
-ghost use Rattle.campl_types.specs.Names.{is_among};
 ghost use Rattle.campl_types.specs.Headers.{link_names};
 ghost use Rattle.campl_names.specs.Scope.{with_names};
-ghost use Rattle.campl_seqcheck.specs.Judged.{Fails, Is, fine};
+ghost use Rattle.campl_seqcheck.specs.Judged.{fine};
 ghost use Rattle.campl_linear.specs.Faults as plain;
 ghost use Rattle.campl_linear.specs.Plugs.{stands_once, links_are_new};
 ghost use Rattle.campl_held.specs.Answered.{Answers, Tells};
 ghost use Rattle.campl_held.specs.Slots.{view_held};
-ghost use Rattle.campl_plug_heads.specs.Heads.{names_in, link_stands, links_join};
+ghost use Rattle.campl_plug_heads.specs.Heads.{link_joins, link_stands, links_join};
 
 use crate::numbers::Numbers;
 use campl_held::{Held, LinFault, new_name};
@@ -85,7 +84,7 @@ pub(crate) fn links_are_new(alloc: Global, held: &Held, links: &[Link]) -> Resul
 /// Refuses a link that doesn't stand on both sides.
 #[tactic(auto, using(crate::proofs::Told::refusals))]
 fn link_joins(alloc: Global, ends: &Ends, x: &Ident) -> Result<(), LinFault>
-    ensures { Answers (λ _. fine) (if is_among x.now.name (names_in ends.now.inputs) && is_among x.now.name (names_in ends.now.outputs) then Is fine else Fails (plain.PlugUse x.now.place x.now.name)) result }
+    ensures { Answers (λ _. fine) (link_joins ends.now.inputs ends.now.outputs x.now) result }
 {
     if ends.inputs.has(&x.name) && ends.outputs.has(&x.name) {
         Ok(())

@@ -23,7 +23,7 @@ use std::alloc::Global;
 fn part_count(at: Place, parts: usize) -> Result<(), LinFault>
     ensures { Answers (λ _. fine) (part_count at parts) result }
 {
-    if (2..=64).contains(&parts) {
+    if 2 <= parts && parts <= 64 {
         Ok(())
     } else {
         Err(LinFault::PartCount(at))
