@@ -109,3 +109,5 @@ pub share-is : (links : List Link) (held : Holding) (h : Header) (outputs names 
     → names ≡ with_names [] (names_of h.outputs ++ names_of h.inputs) → those (λ x. is_among x names) held ++ ends_in outputs names links ≡ share_of links held h
 share-is links held h outputs names i j =
     share-so h outputs names (λ x. ap (is_among x) i ∙ same-set (names_of h.outputs) x) (λ x. ap (is_among x) j ∙ same-set (names_of h.outputs ++ names_of h.inputs) x) links held
+
+pub ruleset shares = (stand-kept, share-is)

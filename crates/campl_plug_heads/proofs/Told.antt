@@ -29,7 +29,7 @@ use Rattle.campl_held.specs.Answered.{Refused}
 use Rattle.campl_held.proofs.Told.{refused, stopped}
 use Rattle.campl_plug_heads.specs.Heads.{Numbered, links_named, numbered, links_join, LinksStand, HeadersStand}
 use Rattle.campl_plug_heads.proofs.Trees.{link-is, part-is}
-use Rattle.campl_plug_heads.proofs.Uses.{links-join}
+use Rattle.campl_plug_heads.proofs.Used.{links-join}
 use Rattle.campl_plug_heads.proofs.Same.{headers-are}
 use Rattle.campl_plug_heads.proofs.Shares.{links-stand}
 

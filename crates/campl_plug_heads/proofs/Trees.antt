@@ -36,7 +36,7 @@ found-marked x n (y ∷ ys) es = go (same_name x y.name) (found-marked x n ys es
     go false i = i
 
 -- the number of a part, where n parts come before
-shift : ℕ → ℕ → ℕ
+abbrev shift : ℕ → ℕ → ℕ
 shift n zero = 0
 shift n (suc p) = suc p + n
 

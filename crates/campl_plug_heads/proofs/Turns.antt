@@ -22,7 +22,6 @@ use Rattle.campl_linear.specs.Holding.{Holding}
 use Rattle.campl_linear.specs.Channels.{new_name}
 use Rattle.campl_linear.specs.Plugs.{stands_once, may_stand, links_are_new, names_stand, headers_stand}
 use Rattle.campl_linear.proofs.Turns.{in-turn}
-use Rattle.campl_linear.proofs.Headers.{once-so}
 use Rattle.campl_held.specs.declared.fault.LinFault.{LinFault}
 use Rattle.campl_held.specs.Answered.{Refused}
 use Rattle.campl_held.proofs.Told.{stopped}
@@ -80,10 +79,17 @@ module _ (ins outs : Numbered) (links : List code.Link) (i : ℕ) where
 
 -- Names of a header
 
+once-so : (x : Ident) (names : List Name) → stands_once x names ≡ Is fine → is_among x.name names ≡ false
+once-so x names i = go (is_among x.name names) refl
+  where
+    go : (b : Bool) → is_among x.name names ≡ b → is_among x.name names ≡ false
+    go true e = absurd (cc (rw e at i))
+    go false e = e
+
 pub once-before : (f : Links) (held : Holding) (s : Side) (also : List Name) (before : Numbered) (x : Ident) → name_stands f held s (also ++ names_in before) x ≡ Is fine → is_among x.name (names_in before) ≡ false
 once-before f held s also before x i =
     let j = in-turn (may_stand x s (f x.name) (found x.name held)) (λ _. stands_once x (also ++ names_in before)) fine i in
-    (or-none (is_among x.name also) (is_among x.name (names_in before)) (sym (among-append x.name also (names_in before)) ∙ once-so x (also ++ names_in before) fine j.2)).1
+    (or-none (is_among x.name also) (is_among x.name (names_in before)) (sym (among-append x.name also (names_in before)) ∙ once-so x (also ++ names_in before) j.2)).1
 
 module _ (f : Links) (held : Holding) (s : Side) (also : List Name) (xs : List Ident) (i : ℕ) where
   pub names-at : (before : Numbered) (n : ℕ) (x : Ident) → i < length xs → x ≡ get_or xs i x
