@@ -11,6 +11,7 @@ use Rattle.campl_names.specs.NameSet.{HaveSame, with_name}
 use Rattle.campl_names.specs.Scope.{with_names}
 use Rattle.campl_names.proofs.Declared.{among-behind}
 use Rattle.campl_names.proofs.Scopes.{with-append}
+use Rattle.indexmap.specs.IndexMap.{insert_entry}
 use Rattle.campl_names.proofs.Sets.{lookup-found, some-among, entry-behind}
 use Rattle.campl_plug_heads.specs.Heads.{Numbered, names_in, marked, numbered, all_names}
 
@@ -54,6 +55,9 @@ same-set us x = among-names x [] us ∙ or-nothing (is_among x us)
     or-nothing true = refl
     or-nothing false = refl
 
-pub ruleset maps = (lookup-found, some-among, entry-behind)
+pub put-behind : (x y : Name) (n : ℕ) (es after : Numbered) → y ≡ x → is_among x (names_in es) ≡ false → after ≡ insert_entry same_name es y n → after ≡ es ++ (x, n) ∷ []
+put-behind x y n es after i j k = k ∙ ap (λ z. insert_entry same_name es z n) i ∙ entry-behind x n es (some-among x es ∙ j)
+
+pub ruleset maps = (lookup-found, some-among, put-behind)
 
 pub ruleset headers = (view_part-out, with-append)

@@ -102,4 +102,13 @@ module _ (links : List Link) (ps : Parts) (some : 1 ≤ count ps) (within : All 
   pub apart-told : (p : ℕ) → IsFaultOf (count ps) (joined_parts links ps) (plug.Apart p) → parts_form_tree links ps ≡ is_apart p (part_at ps p)
   apart-told p is = told (plug.Apart p) (λ e. cc e) is
 
+  -- under the names that code has for the parts and links
+  pub apart-at : (n : ℕ) (joined : List numbers.Link) (p : ℕ) → n ≡ count ps → joined ≡ joined_parts links ps → IsFaultOf n joined (plug.Apart p) → parts_form_tree links ps ≡ is_apart p (part_at ps p)
+  apart-at n joined p i j is = apart-told p (subst (λ m. IsFaultOf m (joined_parts links ps) (plug.Apart p)) i (subst (λ l. IsFaultOf n l (plug.Apart p)) j is))
+
+pub joined-so : (ps : Parts) (links : List Link) (ins outs : Numbered) → ins ≡ numbered inputs_in 1 ps → outs ≡ numbered outputs_in 1 ps → map (joined_in ins outs) links ≡ joined_parts links ps
+joined-so ps links ins outs i j = ap (λ (z : Numbered). map (joined_in z outs) links) i ∙ ap (λ (z : Numbered). map (joined_in (numbered inputs_in 1 ps) z) links) j ∙ joined-is ps links
+
+pub ruleset counts = (count-is)
+
 pub ruleset trees = (joined-is, count-is, tree-stands, cycle-told, apart-told)

@@ -27,7 +27,7 @@ use Rattle.campl_held.specs.Answered.{Refused}
 use Rattle.campl_held.proofs.Told.{stopped}
 use Rattle.campl_plug_heads.specs.Heads.{Numbered, names_in, marked, numbered, all_names, link_stands, name_stands, header_stands, link_joins, links_join}
 use Rattle.campl_plug_heads.proofs.Same.{regroup, same-last, same-turned, links-same, names-same, headers-same, headers-step}
-use Rattle.campl_plug_heads.proofs.Names.{among-names, names-marked, names-append}
+use Rattle.campl_plug_heads.proofs.Names.{among-names, names-marked, names-append, same-set}
 
 -- One turn of a loop
 
@@ -114,6 +114,12 @@ marked-at xs i before n x l is = append_assoc before ((x.name, n) ∷ []) (marke
 
 pub marked-end : (xs : List Ident) (i : ℕ) (before : Numbered) (n : ℕ) → length xs ≤ i → before ++ marked n (drop i xs) ≡ before
 marked-end xs i before n l = ap (λ ys. before ++ marked n ys) (drop_all i xs l) ∙ append-nil before
+
+-- a set of other names beside those before
+pub own-stand : (f : Links) (held : Holding) (s : Side) (own ins before : List Name) (xs : List Ident) → own ≡ with_names [] ins → names_stand f held s (ins ++ before) xs ≡ names_stand f held s (own ++ before) xs
+own-stand f held s own ins before xs i =
+    names-same f f held s (ins ++ before) (own ++ before) xs (λ y. refl)
+        (λ y. among-append y ins before ∙ ap (λ z. z || is_among y before) (sym (ap (is_among y) i ∙ same-set ins y)) ∙ sym (among-append y own before))
 
 -- Headers
 

@@ -1,5 +1,6 @@
 //! What is judged of a plug's headers.
 ghost use Rattle.std.specs.Prelude.{◌≡◌, ◌≤◌, ◌++◌, [], IfOk, OnOk, if◌then◌else◌, length, map};
+ghost use Rattle.campl_tree.specs.declared.service.Side.TheVariants.{Input, Output};
 ghost use Rattle.campl_tree.specs.View.{view_part, parts as part_list};
 ghost use Rattle.campl_types.specs.Names.{found};
 ghost use Rattle.campl_types.specs.World.{names_of};
@@ -14,7 +15,7 @@ ghost use Rattle.campl_plug_heads.specs.Heads.{header_stands, links_named, marke
 
 use crate::links::{misused, Ends};
 use crate::numbers::Numbers;
-use crate::sets::name_set;
+use crate::sets::inputs_of;
 use campl_held::{not_held, Held, LinFault};
 use campl_names::NameSet;
 use campl_tree::{Ident, Part, Side};
@@ -140,7 +141,7 @@ fn outputs_stand(
     ensures judged { Answers (λ _. fine) (names_stand (links_named around.now.links.now) (view_held around.now.held.now) Output (names_of (view_part part.now).0.inputs ++ names_in before.old) (view_part part.now).0.outputs) result }
     ensures added { OnOk result (before.new ≡ before.old ++ marked number (view_part part.now).0.outputs) }
 {
-    let own = match name_set(alloc, part.inputs.as_slice()) {
+    let own = match inputs_of(alloc, part) {
         Ok(own) => own,
         Err(_) => return Err(LinFault::OutOfMemory),
     };

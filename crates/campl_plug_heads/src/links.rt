@@ -68,12 +68,12 @@ pub(crate) fn links_are_new(alloc: Global, held: &Held, links: &[Link]) -> Resul
 {
     let mut seen = NameSet::new(alloc);
     for i in 0..links.len() {
-        let name = &links[i].name;
-        match link_stands(alloc, held, &seen, name) {
+        let link = &links[i];
+        match link_stands(alloc, held, &seen, &link.name) {
             Ok(()) => {}
             Err(fault) => return Err(fault),
         }
-        match seen.add(alloc, &name.name) {
+        match seen.add(alloc, &link.name.name) {
             Ok(()) => {}
             Err(_) => return Err(LinFault::OutOfMemory),
         }
@@ -98,7 +98,8 @@ pub(crate) fn links_join(alloc: Global, ends: &Ends, links: &[Link]) -> Result<(
     ensures { Answers (λ _. fine) (links_join ends.now.inputs ends.now.outputs (map view_link links.now)) result }
 {
     for i in 0..links.len() {
-        match link_joins(alloc, ends, &links[i].name) {
+        let link = &links[i];
+        match link_joins(alloc, ends, &link.name) {
             Ok(()) => {}
             Err(fault) => return Err(fault),
         }

@@ -73,8 +73,9 @@ impl Numbers {
     {
         let name = name.copy(alloc)?;
         match self.numbers.insert(name, number) {
-            Ok(_) => Ok(()),
-            Err(_) => Err(AllocError),
+            Ok(_) => {}
+            Err(_) => return Err(AllocError),
         }
+        Ok(())
     }
 }

@@ -20,10 +20,13 @@ use campl_tree::{Link, Part, Place};
 use std::alloc::Global;
 
 /// Refuses a plug of fewer than 2 or more than 64 parts.
-fn part_count(at: Place, parts: usize) -> Result<(), LinFault>
-    ensures { Answers (λ _. fine) (part_count at parts) result }
+#[tactic(auto, using(crate::proofs::Trees::counts))]
+fn part_count(at: Place, parts: &[Part]) -> Result<(), LinFault>
+    ensures judged { Answers (λ _. fine) (part_count at (count (part_list (map view_part parts.now)))) result }
+    ensures some { OnOk result (1 ≤ length parts.now) }
+    ensures most { OnOk result (length parts.now ≤ 64) }
 {
-    if 2 <= parts && parts <= 64 {
+    if 2 <= parts.len() && parts.len() <= 64 {
         Ok(())
     } else {
         Err(LinFault::PartCount(at))
@@ -103,7 +106,7 @@ pub fn plug_stands(
     ensures judged { Answers (λ _. fine) (plug_stands at (map view_link links.now) (part_list (map view_part parts.now)) (view_held held.now)) result }
     ensures new { OnOk result (LinksStand (map view_link links.now) (view_held held.now)) }
 {
-    match part_count(at, parts.len()) {
+    match part_count(at, parts) {
         Ok(()) => {}
         Err(fault) => return Err(fault),
     }

@@ -20,7 +20,7 @@ fn add_names(alloc: Global, set: &mut NameSet, xs: &[Ident]) -> Result<(), Alloc
 }
 
 /// The set of names.
-pub(crate) fn name_set(alloc: Global, xs: &[Ident]) -> Result<NameSet, AllocError>
+fn name_set(alloc: Global, xs: &[Ident]) -> Result<NameSet, AllocError>
     ensures { IfOk result (λ s. s ≡ with_names [] (names_of xs.now)) }
 {
     let mut set = NameSet::new(alloc);
@@ -28,13 +28,38 @@ pub(crate) fn name_set(alloc: Global, xs: &[Ident]) -> Result<NameSet, AllocErro
     Ok(set)
 }
 
+/// The set of the inputs of a part.
+#[tactic(auto, using(crate::proofs::Names::headers))]
+pub(crate) fn inputs_of(alloc: Global, part: &Part) -> Result<NameSet, AllocError>
+    ensures { IfOk result (λ s. s ≡ with_names [] (names_of (view_part part.now).0.inputs)) }
+{
+    name_set(alloc, part.inputs.as_slice())
+}
+
+/// The set of the outputs of a part.
+#[tactic(auto, using(crate::proofs::Names::headers))]
+pub(crate) fn outputs_of(alloc: Global, part: &Part) -> Result<NameSet, AllocError>
+    ensures { IfOk result (λ s. s ≡ with_names [] (names_of (view_part part.now).0.outputs)) }
+{
+    name_set(alloc, part.outputs.as_slice())
+}
+
 /// Puts the names of a header into a set, outputs first.
 #[tactic(auto, using(crate::proofs::Names::headers))]
-pub(crate) fn add_header(alloc: Global, set: &mut NameSet, part: &Part) -> Result<(), AllocError>
+fn add_header(alloc: Global, set: &mut NameSet, part: &Part) -> Result<(), AllocError>
     ensures { OnOk result (set.new ≡ with_names set.old (names_of (view_part part.now).0.outputs ++ names_of (view_part part.now).0.inputs)) }
 {
     add_names(alloc, set, part.outputs.as_slice())?;
     add_names(alloc, set, part.inputs.as_slice())
+}
+
+/// The set of the names in the header of a part.
+pub(crate) fn names_of_part(alloc: Global, part: &Part) -> Result<NameSet, AllocError>
+    ensures { IfOk result (λ s. s ≡ with_names [] (names_of (view_part part.now).0.outputs ++ names_of (view_part part.now).0.inputs)) }
+{
+    let mut set = NameSet::new(alloc);
+    add_header(alloc, &mut set, part)?;
+    Ok(set)
 }
 
 /// The set of all names in headers.

@@ -6,7 +6,7 @@ ghost use Rattle.campl_linear.specs.Plugs.{share_of};
 ghost use Rattle.campl_held.specs.Slots.{view_held};
 ghost use Rattle.campl_plug_heads.specs.Heads.{side_in, end_in, ends_in, LinksStand};
 
-use crate::sets::{add_header, name_set};
+use crate::sets::{names_of_part, outputs_of};
 use campl_held::Held;
 use campl_names::NameSet;
 use campl_tree::{Link, Name, Part, Side};
@@ -76,9 +76,8 @@ pub fn share_of(
     requires { LinksStand (map view_link links.now) (view_held held.now) }
     ensures { IfOk result (λ share. view_held share ≡ share_of (map view_link links.now) (view_held held.now) (view_part part.now).0) }
 {
-    let outputs = name_set(alloc, part.outputs.as_slice())?;
-    let mut names = NameSet::new(alloc);
-    add_header(alloc, &mut names, part)?;
+    let outputs = outputs_of(alloc, part)?;
+    let names = names_of_part(alloc, part)?;
     let mut share = held.those(alloc, &names, true)?;
     add_ends(alloc, &mut share, &outputs, &names, links)?;
     Ok(share)

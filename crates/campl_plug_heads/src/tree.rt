@@ -5,8 +5,9 @@ ghost use Rattle.campl_tree.specs.View.{view_link, view_part, parts as part_list
 ghost use Rattle.campl_types.specs.Headers.{count};
 ghost use Rattle.campl_peel.specs.Numbered.{inputs_in, outputs_in, joined_parts, part_at};
 ghost use Rattle.campl_seqcheck.specs.Judged.{fine};
+ghost use Rattle.campl_linear.specs.Faults as plain;
 ghost use Rattle.campl_linear.specs.Plugs.{in_cycle, is_apart, parts_form_tree};
-ghost use Rattle.campl_held.specs.Answered.{Answers, Refused};
+ghost use Rattle.campl_held.specs.Answered.{Answers, Refused, Tells};
 ghost use Rattle.campl_plug_heads.specs.Heads.{joined_in, numbered};
 
 use crate::links::Ends;
@@ -54,8 +55,16 @@ fn in_cycle(alloc: Global, links: &[Link], number: usize) -> LinFault
     }
 }
 
+/// That a part of this number is apart from the first.
+#[tactic(auto, using(crate::proofs::Names::headers))]
+fn apart(part: &Part, number: usize) -> LinFault
+    ensures { Tells (plain.PlugApart (view_part part.now).0.place number) result }
+{
+    LinFault::PlugApart(part.place, number)
+}
+
 /// That a part, by its number from 1, is apart from the first.
-#[tactic(auto, using(crate::proofs::Told::trees, crate::proofs::Names::headers))]
+#[tactic(auto, using(crate::proofs::Told::trees, crate::proofs::Told::refusals))]
 fn is_apart(parts: &[Part], number: usize) -> LinFault
     ensures { Refused (is_apart number (part_at (part_list (map view_part parts.now)) number)) result }
 {
@@ -63,7 +72,7 @@ fn is_apart(parts: &[Part], number: usize) -> LinFault
         return LinFault::OutOfMemory;
     }
     match parts.get(number - 1) {
-        Some(part) => LinFault::PlugApart(part.place, number),
+        Some(part) => apart(part, number),
         None => LinFault::OutOfMemory,
     }
 }
