@@ -1,5 +1,5 @@
 -- What code tells of a plug, step by step.
-use Rattle.std.proofs.Common.{◌≡◌, ◌∙◌, refl, sym, ap, subst, ℕ, suc, ◌+◌, ◌-◌, ◌≤◌, arith, Bool, true, false, if◌then◌else◌, List, [], ◌++◌, Option, Some, None, option_map, map, length, slice_get}
+use Rattle.std.proofs.Common.{◌≡◌, ◌∙◌, refl, sym, ap, subst, ℕ, zero, suc, ◌+◌, ◌-◌, ◌==◌, true≢false, ◌≤◌, arith, Bool, true, false, if◌then◌else◌, List, [], ◌++◌, Option, Some, None, option_map, map, length, slice_get}
 use Rattle.std.specs.Prelude.{All}
 use Rattle.campl_plug.specs.Links.{IsWithin}
 use Rattle.campl_tree.specs.declared.place.Place.{Place}
@@ -57,12 +57,16 @@ pub ruleset places = (may-link, may-held, may-none)
 pub cycle-of : (links : List code.Link) (i : ℕ) (l : code.Link) → Some l ≡ slice_get links i → in_cycle (slice_get (map view_link links) i) ≡ Fails (plain.PlugCycle l.name.place l.name.name)
 cycle-of links i l e = ap in_cycle (link-is links i ∙ ap (option_map view_link) (sym e))
 
+pub some-number : (n : ℕ) → (n == 0) ≡ false → 1 ≤ n
+some-number zero i = absurd (true≢false i)
+some-number (suc n) i = omega arith
+
 pub apart-of : (ps : List Part) (n : ℕ) (p : Part) → 1 ≤ n → Some p ≡ slice_get ps (n - 1) → is_apart n (part_at (parts (map view_part ps)) n) ≡ Fails (plain.PlugApart (view_part p).0.place n)
 apart-of ps n p some e =
     let is : n ≡ suc (n - 1) = omega (arith, some) in
     ap (is_apart n) (ap (part_at (parts (map view_part ps))) is ∙ part-is ps (n - 1) ∙ ap (option_map view_part) (sym e))
 
-pub ruleset trees = (cycle-of, apart-of)
+pub ruleset trees = (cycle-of)
 
 -- Links join parts, behind the first five steps
 pub within : (at : Place) (links : List Link) (ps : Parts) (held : Holding) → HeadersStand links ps held → links_are_used links ps ≡ Is fine → all_are_used at held ps ≡ Is fine

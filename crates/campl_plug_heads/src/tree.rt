@@ -64,7 +64,6 @@ fn apart(part: &Part, number: usize) -> LinFault
 }
 
 /// That a part, by its number from 1, is apart from the first.
-#[tactic(auto, using(crate::proofs::Told::trees, crate::proofs::Told::refusals))]
 fn is_apart(parts: &[Part], number: usize) -> LinFault
     ensures { Refused (is_apart number (part_at (part_list (map view_part parts.now)) number)) result }
 {
