@@ -1,5 +1,6 @@
 -- What code tells of a plug, step by step.
-use Rattle.std.proofs.Common.{◌≡◌, ◌∙◌, refl, sym, ap, subst, ℕ, zero, suc, ◌+◌, ◌-◌, ◌==◌, true≢false, ◌≤◌, arith, Bool, true, false, if◌then◌else◌, List, [], ◌++◌, Option, Some, None, option_map, map, length, slice_get}
+use Rattle.std.proofs.Common.{◌≡◌, ◌∙◌, refl, sym, ap, subst, ℕ, zero, suc, ◌+◌, ◌-◌, ◌<◌, ◌≤◌, ltb, ltb-true, get_or, arith, Bool, true, false, if◌then◌else◌, List, [], ◌++◌, Option, Some, None, option_map, map, length, slice_get}
+use Rattle.std.proofs.lemmas.Option.{slice_get-get_or}
 use Rattle.std.specs.Prelude.{All}
 use Rattle.campl_plug.specs.Links.{IsWithin}
 use Rattle.campl_tree.specs.declared.place.Place.{Place}
@@ -57,9 +58,13 @@ pub ruleset places = (may-link, may-held, may-none)
 pub cycle-of : (links : List code.Link) (i : ℕ) (l : code.Link) → Some l ≡ slice_get links i → in_cycle (slice_get (map view_link links) i) ≡ Fails (plain.PlugCycle l.name.place l.name.name)
 cycle-of links i l e = ap in_cycle (link-is links i ∙ ap (option_map view_link) (sym e))
 
-pub some-number : (n : ℕ) → (n == 0) ≡ false → 1 ≤ n
-some-number zero i = absurd (true≢false i)
+pub some-number : (n : ℕ) → (n ≡ 0 → ⊥) → 1 ≤ n
+some-number zero i = absurd (i refl)
 some-number (suc n) i = omega arith
+
+-- what a look-up found stands there
+pub stands-at : {A : Type 0} (xs : List A) (i : ℕ) (x : A) → true ≡ ltb i (length xs) → x ≡ get_or xs i x → Some x ≡ slice_get xs i
+stands-at xs i x l is = let h : i < length xs = ltb-true i (length xs) (sym l) in sym (slice_get-get_or xs i x h ∙ ap (λ y. Some y) (sym is))
 
 pub apart-of : (ps : List Part) (n : ℕ) (p : Part) → 1 ≤ n → Some p ≡ slice_get ps (n - 1) → is_apart n (part_at (parts (map view_part ps)) n) ≡ Fails (plain.PlugApart (view_part p).0.place n)
 apart-of ps n p some e =

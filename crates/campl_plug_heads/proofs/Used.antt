@@ -9,6 +9,7 @@ use Rattle.campl_types.specs.Names.{Name, is_among}
 use Rattle.campl_types.specs.World.{names_of}
 use Rattle.campl_types.specs.Headers.{Links, links_in, times, times_in, times_out}
 use Rattle.campl_types.proofs.Names.{among-append}
+use Rattle.campl_types.proofs.Times.{among-some, among-none}
 use Rattle.campl_types.proofs.Truth.{or-split, or-none}
 use Rattle.campl_peel.specs.Numbered.{inputs_in, outputs_in}
 use Rattle.campl_names.specs.NameSet.{HaveSame}
@@ -18,7 +19,7 @@ use Rattle.campl_linear.specs.Faults.{LinFault, PlugUse, LeftOver}
 use Rattle.campl_linear.specs.Holding.{Holding, those}
 use Rattle.campl_linear.specs.Channels.{none_left}
 use Rattle.campl_linear.specs.Plugs.{uses, links_are_used, all_are_used}
-use Rattle.campl_linear.proofs.Standing.{among-some, among-none, on, on-in, on-out}
+use Rattle.campl_linear.proofs.Standing.{on, on-in, on-out}
 use Rattle.campl_linear.proofs.Headers.{Stand}
 use Rattle.campl_plug_heads.specs.Heads.{Numbered, names_in, marked, numbered, all_names, links_join}
 use Rattle.campl_plug_heads.proofs.Names.{names-marked, names-append, same-set}
