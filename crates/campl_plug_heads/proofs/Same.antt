@@ -1,5 +1,5 @@
 -- What is judged of a name beside others depends on which these are alone.
-use Rattle.std.proofs.Common.{◌≡◌, ◌∙◌, refl, sym, ap, ℕ, Bool, true, false, ◌||◌, true≢false, if◌then◌else◌, List, [], ◌∷◌, ◌++◌, Option, Some, None, is_some, map}
+use Rattle.std.proofs.Common.{◌≡◌, ◌∙◌, refl, sym, ap, Bool, true, false, ◌||◌, true≢false, if◌then◌else◌, List, [], ◌∷◌, ◌++◌, Option, Some, None, is_some}
 use Rattle.campl_tree.specs.declared.place.Ident.{Ident}
 use Rattle.campl_tree.specs.declared.service.Side.{Side}
 use Rattle.campl_tree.specs.declared.service.Side.TheVariants.{Input, Output}
@@ -7,7 +7,7 @@ use Rattle.campl_tree.specs.Plain.ChanType.{ChanType, TopBot}
 use Rattle.campl_tree.specs.Plain.Process.{Body, Link, Header, Parts, no_parts, part_then}
 use Rattle.campl_types.specs.Names.{Name, same_name, is_among, found}
 use Rattle.campl_types.specs.World.{names_of}
-use Rattle.campl_types.specs.Held.{Channel, On}
+use Rattle.campl_types.specs.Held.{Channel}
 use Rattle.campl_types.specs.Headers.{Links, links_in, link_names}
 use Rattle.campl_types.proofs.Names.{among-append}
 use Rattle.campl_names.specs.NameSet.{HaveSame}

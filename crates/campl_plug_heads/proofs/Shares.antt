@@ -1,5 +1,5 @@
 -- What a part holds.
-use Rattle.std.proofs.Common.{◌≡◌, ◌∙◌, refl, sym, ap, subst, ℕ, ◌+◌, ◌<◌, ◌≤◌, Bool, true, false, not, ◌||◌, ◌&&◌, true≢false, if◌then◌else◌, List, [], ◌∷◌, ◌++◌, append_assoc, append-nil, map, drop, length, get_or, Option, Some, None}
+use Rattle.std.proofs.Common.{◌≡◌, ◌∙◌, refl, sym, ap, subst, ℕ, ◌+◌, ◌<◌, ◌≤◌, Bool, true, false, not, ◌||◌, if◌then◌else◌, List, [], ◌∷◌, ◌++◌, append_assoc, append-nil, map, drop, length, get_or, Option, Some, None}
 use Rattle.std.proofs.Math.Path.{fun_ext}
 use Rattle.std.proofs.lemmas.List.{drop_all}
 use Rattle.campl_tree.specs.declared.service.Side.{Side}
@@ -9,11 +9,10 @@ use Rattle.campl_tree.specs.Plain.Process.{Link, Header}
 use Rattle.campl_tree.specs.View.{view_link}
 use Rattle.campl_types.specs.Names.{Name, same_name, is_among, are_distinct, found}
 use Rattle.campl_types.specs.World.{names_of, or_else}
-use Rattle.campl_types.specs.Held.{Channel, On}
+use Rattle.campl_types.specs.Held.{On}
 use Rattle.campl_types.specs.Headers.{link_names}
 use Rattle.campl_types.proofs.Names.{same-is, same-itself, among-append}
 use Rattle.campl_types.proofs.Truth.{and-first, and-second, not-true, or-first, or-second, no-both}
-use Rattle.campl_types.proofs.Among.{DistinctFrom}
 use Rattle.campl_names.specs.NameSet.{HaveSame}
 use Rattle.campl_names.specs.Scope.{with_names}
 use Rattle.campl_seqcheck.specs.Judged.{fine, Is}

@@ -1,5 +1,5 @@
 -- What code tells of a plug, step by step.
-use Rattle.std.proofs.Common.{◌≡◌, ◌∙◌, refl, sym, ap, subst, ℕ, zero, suc, ◌+◌, ◌-◌, ◌<◌, ◌≤◌, ltb, ltb-true, get_or, arith, Bool, true, false, if◌then◌else◌, List, [], ◌++◌, Option, Some, None, option_map, map, length, slice_get}
+use Rattle.std.proofs.Common.{◌≡◌, ◌∙◌, refl, sym, ap, ℕ, zero, suc, ◌-◌, ◌<◌, ◌≤◌, ltb, ltb-true, get_or, arith, Bool, true, false, if◌then◌else◌, List, [], Option, Some, None, option_map, map, length, slice_get}
 use Rattle.std.proofs.lemmas.Option.{slice_get-get_or}
 use Rattle.std.specs.Prelude.{All}
 use Rattle.campl_plug.specs.Links.{IsWithin}
@@ -9,24 +9,21 @@ use Rattle.campl_tree.specs.declared.process.Link as code
 use Rattle.campl_tree.specs.declared.process.Part.{Part}
 use Rattle.campl_tree.specs.declared.service.Side.{Side}
 use Rattle.campl_tree.specs.Plain.ChanType.{ChanType, TopBot}
-use Rattle.campl_tree.specs.Plain.Process.{Link, Header, Body, Parts}
+use Rattle.campl_tree.specs.Plain.Process.{Link, Parts}
 use Rattle.campl_tree.specs.View.{view_link, view_part, parts}
-use Rattle.campl_types.specs.Names.{Name, is_among, found}
-use Rattle.campl_types.specs.World.{names_of}
+use Rattle.campl_types.specs.Names.{Name, is_among}
 use Rattle.campl_types.specs.Held.{Channel, On}
-use Rattle.campl_types.specs.Headers.{Divide, count, links_in, link_names}
+use Rattle.campl_types.specs.Headers.{count, links_in, link_names}
 use Rattle.campl_types.proofs.Names.{among-append}
 use Rattle.campl_peel.specs.Numbered.{inputs_in, outputs_in, joined_parts, part_at}
 use Rattle.campl_names.specs.Scope.{with_names}
-use Rattle.campl_seqcheck.specs.Judged.{Fine, fine, Judged, Is, Fails, and_then}
+use Rattle.campl_seqcheck.specs.Judged.{fine, Is, Fails}
 use Rattle.campl_linear.specs.Faults as plain
-use Rattle.campl_linear.specs.Holding.{Holding, as_held}
+use Rattle.campl_linear.specs.Holding.{Holding}
 use Rattle.campl_linear.specs.Channels.{same_side}
 use Rattle.campl_linear.specs.Plugs.{may_stand, in_cycle, is_apart, headers_stand, links_are_used, all_are_used}
 use Rattle.campl_linear.proofs.Headers.{headers-so, links-used, all-used, divide-so}
 use Rattle.campl_linear.proofs.Plugged.{joins-parts}
-use Rattle.campl_held.specs.declared.fault.LinFault.{LinFault}
-use Rattle.campl_held.specs.Answered.{Refused}
 use Rattle.campl_held.proofs.Told.{refused, stopped}
 use Rattle.campl_plug_heads.specs.Heads.{Numbered, links_named, numbered, links_join, LinksStand, HeadersStand}
 use Rattle.campl_plug_heads.proofs.Trees.{link-is, part-is}

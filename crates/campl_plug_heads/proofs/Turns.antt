@@ -1,12 +1,11 @@
 -- What is judged from where a loop stands.
-use Rattle.std.proofs.Common.{◌≡◌, ◌∙◌, refl, sym, ap, subst, ℕ, zero, suc, ◌+◌, ◌<◌, ◌≤◌, Bool, true, false, ◌||◌, ◌&&◌, true≢false, if◌then◌else◌, List, [], ◌∷◌, ◌++◌, append_assoc, append-nil, map, drop, length, get_or, arith}
+use Rattle.std.proofs.Common.{◌≡◌, ◌∙◌, refl, sym, ap, subst, ℕ, ◌+◌, ◌<◌, ◌≤◌, Bool, true, false, ◌||◌, List, [], ◌∷◌, ◌++◌, append_assoc, append-nil, map, drop, length, get_or}
 use Rattle.std.proofs.lemmas.List.{drop_more, drop_all}
-use Rattle.campl_plug.specs.declared.plug.Link as numbers
 use Rattle.campl_tree.specs.declared.place.Ident.{Ident}
 use Rattle.campl_tree.specs.declared.process.Link as code
 use Rattle.campl_tree.specs.declared.process.Part.{Part}
 use Rattle.campl_tree.specs.declared.service.Side.{Side}
-use Rattle.campl_tree.specs.Plain.Process.{Link, Header, Parts}
+use Rattle.campl_tree.specs.Plain.Process.{Header}
 use Rattle.campl_tree.specs.View.{view_link, view_part, parts}
 use Rattle.campl_types.specs.Names.{Name, same_name, is_among, found}
 use Rattle.campl_types.specs.World.{names_of}
@@ -16,7 +15,7 @@ use Rattle.campl_types.proofs.Truth.{or-none}
 use Rattle.campl_names.specs.NameSet.{HaveSame, with_name}
 use Rattle.campl_names.specs.Scope.{with_names}
 use Rattle.campl_names.proofs.Scopes.{with-append}
-use Rattle.campl_seqcheck.specs.Judged.{Fine, fine, Judged, Is, Fails, and_then}
+use Rattle.campl_seqcheck.specs.Judged.{Fine, fine, Judged, Is, and_then}
 use Rattle.campl_linear.specs.Faults as plain
 use Rattle.campl_linear.specs.Holding.{Holding}
 use Rattle.campl_linear.specs.Channels.{new_name}

@@ -1,21 +1,20 @@
 -- Links that are used twice, and held channels that are used.
-use Rattle.std.proofs.Common.{◌≡◌, ◌∙◌, ◌⊎◌, inl, inr, refl, sym, ap, subst, ℕ, zero, suc, ◌+◌, ◌≤◌, arith, nat_le, Bool, true, false, not, ◌||◌, ◌&&◌, if◌then◌else◌, List, [], ◌∷◌, ◌++◌, true≢false}
+use Rattle.std.proofs.Common.{◌≡◌, ◌∙◌, inl, inr, refl, sym, ap, ℕ, ◌+◌, ◌≤◌, arith, nat_le, Bool, true, false, not, ◌||◌, ◌&&◌, if◌then◌else◌, List, [], ◌∷◌, ◌++◌, true≢false}
 use Rattle.std.proofs.lemmas.Bool.{le-leb, leb-true}
 use Rattle.campl_tree.specs.declared.place.Place.{Place}
 use Rattle.campl_tree.specs.declared.place.Ident.{Ident}
-use Rattle.campl_tree.specs.declared.service.Side.TheVariants.{Input, Output}
 use Rattle.campl_tree.specs.Plain.Process.{Link, Header, Parts, no_parts, part_then}
 use Rattle.campl_types.specs.Names.{Name, is_among}
 use Rattle.campl_types.specs.World.{names_of}
-use Rattle.campl_types.specs.Headers.{Links, links_in, times, times_in, times_out}
+use Rattle.campl_types.specs.Headers.{Links, times, times_in, times_out}
 use Rattle.campl_types.proofs.Names.{among-append}
 use Rattle.campl_types.proofs.Times.{among-some, among-none}
 use Rattle.campl_types.proofs.Truth.{or-split, or-none}
 use Rattle.campl_peel.specs.Numbered.{inputs_in, outputs_in}
 use Rattle.campl_names.specs.NameSet.{HaveSame}
 use Rattle.campl_names.specs.Scope.{with_names}
-use Rattle.campl_seqcheck.specs.Judged.{Fine, fine, Judged, Is, Fails, and_then}
-use Rattle.campl_linear.specs.Faults.{LinFault, PlugUse, LeftOver}
+use Rattle.campl_seqcheck.specs.Judged.{fine, Is, Fails, and_then}
+use Rattle.campl_linear.specs.Faults.{PlugUse, LeftOver}
 use Rattle.campl_linear.specs.Holding.{Holding, those}
 use Rattle.campl_linear.specs.Channels.{none_left}
 use Rattle.campl_linear.specs.Plugs.{uses, links_are_used, all_are_used}

@@ -1,7 +1,7 @@
 use Rattle.std.proofs.Common.{◌∙◌, ◌+◌, sym}
 use Rattle.campl_peel.specs.Numbered.{inputs_in, outputs_in}
 use Rattle.campl_held.specs.Slots.{view_held}
-use Rattle.campl_plug_heads.specs.Heads.{links_named, names_in}
+use Rattle.campl_plug_heads.specs.Heads.{links_named}
 use Rattle.campl_plug_heads.proofs.Turns.{went, halted, headers-at, headers-end, numbered-at, numbered-end}
 use Rattle.campl_plug_heads.proofs.heads.headers_stand.Goals as goal
 

@@ -1,6 +1,6 @@
 use Rattle.std.proofs.Common.{◌∙◌, sym}
 use Rattle.campl_held.specs.Slots.{view_held}
-use Rattle.campl_plug_heads.specs.Heads.{links_named, names_in}
+use Rattle.campl_plug_heads.specs.Heads.{links_named}
 use Rattle.campl_plug_heads.proofs.Turns.{went, halted, once-before, names-at, names-end, marked-at, marked-end}
 use Rattle.campl_plug_heads.proofs.heads.names_stand.Goals as goal
 

@@ -1,4 +1,4 @@
-use Rattle.std.proofs.Common.{◌≡◌, ◌∙◌, sym, ap, subst}
+use Rattle.std.proofs.Common.{◌∙◌, sym, ap}
 use Rattle.campl_tree.specs.declared.service.Side.TheVariants.{Output}
 use Rattle.campl_tree.specs.View.{view_part}
 use Rattle.campl_tree.proofs.Views.{view_part-out}

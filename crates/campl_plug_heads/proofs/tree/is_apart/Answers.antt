@@ -1,6 +1,4 @@
-use Rattle.std.proofs.Common.{◌≡◌, ◌≤◌, ◌-◌, sym, arith, map}
-use Rattle.campl_tree.specs.View.{view_part, parts}
-use Rattle.campl_linear.specs.Plugs.{is_apart}
+use Rattle.std.proofs.Common.{◌-◌}
 use Rattle.campl_held.proofs.Told.{refused}
 use Rattle.campl_plug_heads.proofs.Told.{apart-of, some-number, stands-at}
 use Rattle.campl_plug_heads.proofs.tree.is_apart.Goals as goal

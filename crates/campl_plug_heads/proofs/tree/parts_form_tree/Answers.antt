@@ -1,4 +1,4 @@
-use Rattle.std.proofs.Common.{◌≡◌, ◌∙◌, ◌≤◌, sym, subst, length, map}
+use Rattle.std.proofs.Common.{◌∙◌, ◌≤◌, sym, subst, length, map}
 use Rattle.campl_tree.specs.View.{view_link, view_part, parts}
 use Rattle.campl_held.specs.Answered.{Refused}
 use Rattle.campl_plug_heads.proofs.Trees.{apart-at, count-is, joined-so}
