@@ -88,7 +88,7 @@ headers-same f g held a b c d (part_then h body parts) k i j =
     headers-step f held a c h body parts
     ∙ ap (λ (z : Judged LinFault Fine). and_then z (λ _. headers_stand f held (names_of h.inputs ++ a) (names_of h.outputs ++ c) parts)) (header-same f g held a b c d h k i j)
     ∙ ap (λ (z : Judged LinFault Fine). and_then (header_stands g held b d h) (λ _. z))
-        (headers-same f g held (names_of h.inputs ++ a) (names_of h.inputs ++ b) (names_of h.outputs ++ c) (names_of h.outputs ++ d) parts k (same-behind (names_of h.inputs) a b i) (same-behind (names_of h.outputs) c d j))
+    (headers-same f g held (names_of h.inputs ++ a) (names_of h.inputs ++ b) (names_of h.outputs ++ c) (names_of h.outputs ++ d) parts k (same-behind (names_of h.inputs) a b i) (same-behind (names_of h.outputs) c d j))
     ∙ sym (headers-step g held b d h body parts)
 
 -- a plug's links, and their names alone

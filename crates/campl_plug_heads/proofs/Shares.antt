@@ -89,7 +89,7 @@ module _ (h : Header) (outputs names : List Name) (o : HaveSame outputs (names_o
   ends-are (l ∷ ls) =
       ap (λ (z : Bool). held_end l (if z then Some Output else (if is_among l.name.name names then Some Input else None)) ++ ends_in outputs names ls) (o l.name.name)
       ∙ ap (λ (z : Bool). held_end l (if is_among l.name.name (names_of h.outputs) then Some Output else (if z then Some Input else None)) ++ ends_in outputs names ls)
-          (n l.name.name ∙ among-append l.name.name (names_of h.outputs) (names_of h.inputs))
+      (n l.name.name ∙ among-append l.name.name (names_of h.outputs) (names_of h.inputs))
       ∙ go (is_among l.name.name (names_of h.outputs)) (is_among l.name.name (names_of h.inputs)) (ends-are ls)
     where
       go : (a b : Bool) → ends_in outputs names ls ≡ ends_of h ls

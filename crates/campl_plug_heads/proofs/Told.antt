@@ -75,7 +75,7 @@ pub within : (at : Place) (links : List Link) (ps : Parts) (held : Holding) → 
     → All (IsWithin (count ps)) (joined_parts links ps)
 within at links ps held s i j =
     joins-parts links ps held
-        (divide-so links held ps s.links_stand.new (headers-so (links_in links) held [] [] ps fine s.headers) (links-used links ps fine i) (all-used at held ps fine j))
+    (divide-so links held ps s.links_stand.new (headers-so (links_in links) held [] [] ps fine s.headers) (links-used links ps fine i) (all-used at held ps fine j))
 
 -- the links are used where each stands on both sides
 pub used-are : (links : List Link) (ps : Parts) (held : Holding) (ins outs : Numbered) → HeadersStand links ps held → ins ≡ numbered inputs_in 1 ps → outs ≡ numbered outputs_in 1 ps

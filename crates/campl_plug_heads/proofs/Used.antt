@@ -77,9 +77,9 @@ module _ (links : Links) (held : Holding) (parts : Parts) (stand : Stand links h
           → ((a && b) ≡ true → 2 ≤ times_in x parts + times_out x parts) × ((a && b) ≡ false → 2 ≤ times_in x parts + times_out x parts → ⊥)
       go true i true j = (
         (λ k.
-          let m : 1 ≤ on inputs_in x parts = stands-some inputs_in x 1 parts i in
-          let n : 1 ≤ on outputs_in x parts = stands-some outputs_in x 1 parts j in
-          omega (arith, ins, outs, m, n)),
+            let m : 1 ≤ on inputs_in x parts = stands-some inputs_in x 1 parts i in
+            let n : 1 ≤ on outputs_in x parts = stands-some outputs_in x 1 parts j in
+            omega (arith, ins, outs, m, n)),
         (λ k. absurd (true≢false k)),
       )
       go true i false j = ((λ k. absurd (true≢false (sym k))), (λ k l. let n : on outputs_in x parts ≡ 0 = stands-none outputs_in x 1 parts j in omega (arith, ins, outs, ins-most, n, l)))

@@ -12,7 +12,7 @@ ghost use Rattle.campl_plug_heads.specs.Heads.{joined_in, numbered};
 
 use crate::links::Ends;
 use campl_held::LinFault;
-use campl_plug::{tree_order, PlugFault};
+use campl_plug::{PlugFault, tree_order};
 use campl_tree::{Link, Part};
 use std::alloc::{AllocError, Global};
 
