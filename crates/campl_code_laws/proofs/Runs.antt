@@ -17,28 +17,14 @@ use Rattle.campl_meaning.specs.Start.{start}
 use Rattle.campl_code.specs.Instructions.{Code}
 use Rattle.campl_code_bodies.specs.Bodies.{StandsFor}
 use Rattle.campl_meaning.specs.Reductions.{Configuration, Event}
+use Rattle.campl_meaning.proofs.Run.{none-behind, run-is}
 use Rattle.campl_code_bodies.specs.Runs.{Steps, SourceGoes, CodeGoes}
 use Rattle.campl_code_bodies.proofs.Runs.{code-goes, source-goes}
 use Rattle.campl_code_bodies.specs.Running.{CodeConfiguration, Stand, code_start, starts_in, starts_at, code_begins}
 use Rattle.campl_code_bodies.proofs.BodyStands.{process-numbered}
 use Rattle.campl_code_bodies.proofs.Starting.{starts-alike}
 
--- `run` is declared, and has no variables
-
-none-behind : (xs ys : List NameFault) → xs ++ ys ≡ [] → ys ≡ []
-none-behind [] ys i = i
-none-behind (x ∷ xs) ys i = absurd (cc i)
-
-run-is : (w : World) → run_faults w ≡ [] → (q : ProcessDecl) × (process_named w (codes "run") ≡ Some q) × (has_services_alone q ≡ true)
-run-is w i = go (process_named w (codes "run")) refl
-  where
-    alone : (q : ProcessDecl) (b : Bool) → has_services_alone q ≡ b → process_named w (codes "run") ≡ Some q → has_services_alone q ≡ true
-    alone q true j e = j
-    alone q false j e = absurd (cc (rw (e, j) at i))
-
-    go : (o : Option ProcessDecl) → process_named w (codes "run") ≡ o → (q : ProcessDecl) × (process_named w (codes "run") ≡ Some q) × (has_services_alone q ≡ true)
-    go None e = absurd (cc (rw e at i))
-    go (Some q) e = (q, e, alone q (has_services_alone q) refl e)
+-- `run` has no variables
 
 no-parameters : (q : ProcessDecl) → has_services_alone q ≡ true → is_empty q.parameters ≡ true
 no-parameters q i = go (is_empty q.parameters) refl

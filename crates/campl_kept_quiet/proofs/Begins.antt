@@ -38,6 +38,7 @@ use Rattle.campl_meaning.specs.Start.{half, near, far, wires, holding, kind_at, 
 use Rattle.campl_meaning.specs.Views.{view_in}
 use Rattle.campl_meaning.specs.Apart.{Place, At, In, Gone, IsPlaced, IsJoined, IsHeldBy, IsServedBy, IsNamed, IsAtMost, number_after, number_in_end, IsOfKind, Node, Holder, node_of, graph, end_names}
 use Rattle.campl_meaning.specs.Lawful.{IsAccepted, Channels, seen, IsTypedAt, Agree, AreLastPairs, IsInPhase, service_side, Lawful}
+use Rattle.campl_meaning.proofs.Run.{none-behind, run-is}
 use Rattle.campl_kept_quiet.specs.Quiet.{IsAlike}
 use Rattle.campl_kept_quiet.proofs.Alike.{alike-itself, alike-seen, alike-on}
 use Rattle.campl_kept_quiet.proofs.Handed.{distinct-right, Among, found-among, among-found, one-name, Fit, retyped, retyped-alike, listed, held-is}
@@ -45,24 +46,6 @@ use Rattle.campl_kept_quiet.proofs.Calls.{heading, channels-listed}
 use Rattle.campl_kept_quiet.proofs.Wires.{Wired, near-far, partner-near, partner-far, partner-is, own, base, base-near, base-far, among-holding, holding-is, holding-differ, holding-names, Suit, suit-append, suit-fit, attend, no-process, serving-is, serving-there, service_names, service-listed, wired_ends, joined-listed}
 use Rattle.campl_types.proofs.Lowers.{process-typed}
 use Rattle.campl_peel.proofs.Standing.{and-both}
-
--- `run`
-
-none-behind : (xs ys : List NameFault) → xs ++ ys ≡ [] → ys ≡ []
-none-behind [] ys i = i
-none-behind (x ∷ xs) ys i = absurd (cc i)
-
--- it is declared, and has services alone
-run-is : (w : World) → run_faults w ≡ [] → (q : ProcessDecl) × (process_named w (codes "run") ≡ Some q) × (has_services_alone q ≡ true)
-run-is w i = go (process_named w (codes "run")) refl
-  where
-    alone : (q : ProcessDecl) (b : Bool) → has_services_alone q ≡ b → process_named w (codes "run") ≡ Some q → has_services_alone q ≡ true
-    alone q true j e = j
-    alone q false j e = absurd (cc (rw (e, j) at i))
-
-    go : (o : Option ProcessDecl) → process_named w (codes "run") ≡ o → (q : ProcessDecl) × (process_named w (codes "run") ≡ Some q) × (has_services_alone q ≡ true)
-    go None e = absurd (cc (rw e at i))
-    go (Some q) e = (q, e, alone q (has_services_alone q) refl e)
 
 no-variables : (xs : List Binder) (ts : List SeqType) → is_empty ts ≡ true → row_variables xs ts ≡ []
 no-variables [] ts i = refl

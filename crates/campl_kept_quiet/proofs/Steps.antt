@@ -44,28 +44,7 @@ use Rattle.campl_kept_quiet.proofs.Frame.{frame}
 use Rattle.campl_kept_quiet.proofs.Acts.{spent_more, found-does, answer-does, if-does}
 use Rattle.campl_kept_quiet.proofs.Without.{without-was, without-is, without-held, less-distinct}
 use Rattle.campl_types.specs.Values.{IsValue}
-
--- what may be closed
-named-ends : (e : Option TypeEntry) (s : Side) (ts : List SeqType) → of_named e s ts ≡ Ends → ⊥
-named-ends (Some (ProtocolType d)) Input ts i = cc i
-named-ends (Some (ProtocolType d)) Output ts i = cc i
-named-ends (Some (CoprotocolType d)) Input ts i = cc i
-named-ends (Some (CoprotocolType d)) Output ts i = cc i
-named-ends (Some (DataType d)) s ts i = cc i
-named-ends None s ts i = cc i
-
-pub ends-top : (w : World) (s : Side) (u : ChanType) → deed w s u ≡ Ends → u ≡ TopBot
-ends-top w Input (Put t x) i = absurd (cc i)
-ends-top w Output (Put t x) i = absurd (cc i)
-ends-top w Input (Get t x) i = absurd (cc i)
-ends-top w Output (Get t x) i = absurd (cc i)
-ends-top w Input (Tensor x y) i = absurd (cc i)
-ends-top w Output (Tensor x y) i = absurd (cc i)
-ends-top w Input (Par x y) i = absurd (cc i)
-ends-top w Output (Par x y) i = absurd (cc i)
-ends-top w s TopBot i = refl
-ends-top w s (Neg x) i = absurd (cc i)
-ends-top w s (Named at x ts) i = absurd (named-ends (type_named w x) s (list_of ts) i)
+use Rattle.campl_types.proofs.Deeds.{ends-top}
 
 -- Rows and branches
 

@@ -1,0 +1,23 @@
+-- Where nothing is wrong with `run`, it is declared and has services alone.
+use Rattle.std.proofs.Common.{◌≡◌, refl, Bool, true, false, List, [], ◌∷◌, ◌++◌, Option, Some, None}
+use Rattle.std.specs.Prelude.{codes}
+use Rattle.campl_tree.specs.Plain.Decl.{ProcessDecl}
+use Rattle.campl_types.specs.declared.fault.NameFault.{NameFault}
+use Rattle.campl_types.specs.World.{World, process_named}
+use Rattle.campl_types.specs.Run.{run_faults, has_services_alone}
+
+-- no faults behind others
+pub none-behind : (xs ys : List NameFault) → xs ++ ys ≡ [] → ys ≡ []
+none-behind [] ys i = i
+none-behind (x ∷ xs) ys i = absurd (cc i)
+
+pub run-is : (w : World) → run_faults w ≡ [] → (q : ProcessDecl) × (process_named w (codes "run") ≡ Some q) × (has_services_alone q ≡ true)
+run-is w i = go (process_named w (codes "run")) refl
+  where
+    alone : (q : ProcessDecl) (b : Bool) → has_services_alone q ≡ b → process_named w (codes "run") ≡ Some q → has_services_alone q ≡ true
+    alone q true j e = j
+    alone q false j e = absurd (cc (rw (e, j) at i))
+
+    go : (o : Option ProcessDecl) → process_named w (codes "run") ≡ o → (q : ProcessDecl) × (process_named w (codes "run") ≡ Some q) × (has_services_alone q ≡ true)
+    go None e = absurd (cc (rw e at i))
+    go (Some q) e = (q, e, alone q (has_services_alone q) refl e)
