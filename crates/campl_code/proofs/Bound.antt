@@ -12,6 +12,7 @@ use Rattle.campl_types.specs.Forms.{Form, Forms, form_of, part_forms, element_fo
 use Rattle.campl_types.specs.Matching.{Bindings, both, where_holds, matched, all_matched, row_matched, first_match, or_next, number_of, is_number, same_truth}
 use Rattle.campl_types.specs.Patterns.{bound_in, bound_in_all}
 use Rattle.campl_types.specs.World.{World}
+use Rattle.campl_evaluation.proofs.Bound.{both-match}
 use Rattle.campl_code.specs.Decisions.{names_in, names_in_all, row_names, in_order}
 
 -- the names of bindings in the order in which they came
@@ -22,11 +23,6 @@ name_order (b ∷ bs) = name_order bs ++ b.0 ∷ []
 pub order-append : (xs ys : Bindings) → name_order (xs ++ ys) ≡ name_order ys ++ name_order xs
 order-append [] ys = sym (append-nil (name_order ys))
 order-append (b ∷ xs) ys = ap (λ (l : List Name). l ++ b.0 ∷ []) (order-append xs ys) ∙ append_assoc (name_order ys) (name_order xs) (b.0 ∷ [])
-
-both-match : (o q : Option Bindings) (bs : Bindings) → both o q ≡ Some bs → (cs : Bindings) × (ds : Bindings) × (o ≡ Some cs) × (q ≡ Some ds) × (ds ++ cs ≡ bs)
-both-match (Some cs) (Some ds) bs i = (cs, ds, refl, refl, cc i)
-both-match (Some cs) None bs i = absurd (cc i)
-both-match None q bs i = absurd (cc i)
 
 both-names : (o q : Option Bindings) (bs : Bindings) (xs ys : List Name) → both o q ≡ Some bs → ((cs : Bindings) → o ≡ Some cs → name_order cs ≡ xs) → ((ds : Bindings) → q ≡ Some ds → name_order ds ≡ ys) → name_order bs ≡ xs ++ ys
 both-names o q bs xs ys i first second =

@@ -63,7 +63,7 @@ both-fit (Some ys) (Some zs) xs i = (ys, zs, refl, refl, cc i)
 both-fit (Some ys) None xs i = absurd (cc i)
 both-fit None q xs i = absurd (cc i)
 
-both-match : (o q : Option Bindings) (bs : Bindings) → both o q ≡ Some bs → (cs : Bindings) × (ds : Bindings) × (o ≡ Some cs) × (q ≡ Some ds) × (ds ++ cs ≡ bs)
+pub both-match : (o q : Option Bindings) (bs : Bindings) → both o q ≡ Some bs → (cs : Bindings) × (ds : Bindings) × (o ≡ Some cs) × (q ≡ Some ds) × (ds ++ cs ≡ bs)
 both-match (Some cs) (Some ds) bs i = (cs, ds, refl, refl, cc i)
 both-match (Some cs) None bs i = absurd (cc i)
 both-match None q bs i = absurd (cc i)

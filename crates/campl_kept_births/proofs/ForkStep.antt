@@ -40,14 +40,15 @@ use Rattle.campl_meaning.specs.Lawful.{Channels, seen, IsTypedAt, IsPairOf, Agre
 use Rattle.campl_meaning.proofs.Finite.{finite-of, finite-kept}
 use Rattle.campl_meaning.proofs.Agreeing.{agree-turned}
 use Rattle.campl_meaning.proofs.Pairs.{pair-or-none, carried-right, carried-owes}
+use Rattle.campl_meaning.proofs.Holding.{held-end}
+use Rattle.campl_peel.proofs.Peeling.{none-or}
 use Rattle.campl_peel.proofs.Terms.{ends-with}
-use Rattle.campl_kept_births.proofs.Naming.{some-or-none}
 use Rattle.campl_kept_births.proofs.Listed.{IsTidy, found-kept, found-still, not-kept, found-more, found-without, still-without, lists-first, lists-more, lists-later, tidy-those, tidy-more, tidy-without}
 use Rattle.campl_kept_births.proofs.Bare.{IsForkAt, fork-at}
 use Rattle.campl_kept_births.proofs.Frame.{some-is, lists, lists-found, found-listed, agree-same, IsGoodPair, settled, Hands, at-other, at-own, at-kin, lawful-after}
 use Rattle.campl_kept_births.proofs.Masks.{ends-apart, nodes-apart, same_node, masked, standing-some, standing-none, mask, unmask, at-holder, at-pair, node-at, node-in, node-gone, owes-last}
 use Rattle.campl_kept_births.proofs.Newborn.{born-differ, born-fresh, born-idle, not-born, own-place, no-child-yet, child-not, family, parent-there, child-there, others-there, new-agree}
-use Rattle.campl_kept_births.proofs.SplitStep.{end-of, held-of, held-without}
+use Rattle.campl_kept_births.proofs.SplitStep.{held-of, held-without}
 use Rattle.campl_types.proofs.Bare.{bare-chan-twice}
 use Rattle.campl_types.proofs.Truth.{not-true}
 
@@ -307,7 +308,7 @@ module _ (source : Program) (c : Configuration) (l : Lawful source c) (p : Path)
   tidy-base = tidy-without x r.ends tidy
 
   free-name : (n : Name) → without x (held_ends l.channel r.ends) n ≡ None → found n base ≡ None
-  free-name n i = elim (some-or-none (found n base)) [
+  free-name n i = elim (none-or (found n base)) [
     | inl j ↦ j
     | inr (e, f) ↦
         let g : (same_name x n ≡ false) × (found n r.ends ≡ Some e) = found-without x r.ends n e f in
@@ -634,7 +635,7 @@ module _ (source : Program) (c : Configuration) (l : Lawful source c) (p : Path)
       in-end j (inr (inr (inr k))) = absurd k
 
   no-child : c.nodes (child p r) ≡ None
-  no-child = elim (some-or-none (c.nodes (child p r))) [ inl n ↦ n | inr (s, i) ↦ absurd (no-child-yet source c l p r there s i) ]
+  no-child = elim (none-or (c.nodes (child p r))) [ inl n ↦ n | inr (s, i) ↦ absurd (no-child-yet source c l p r there s i) ]
 
   fresh-all : (e : End) → Lies (both_ways move.channels) e → c.partner e ≡ None
   fresh-all e (inl i) = subst (λ q. c.partner q ≡ None) i (born-fresh source c l p r there 1 First)
@@ -828,7 +829,7 @@ fork-kept source c a p r i at x y one z two l there is e =
     let by_names : IsDividedByNames (world_of source) t.vars (held_ends l.channel r.ends) x y one z two =
     divided-by-names (world_of source) t.vars (held_ends l.channel r.ends) x y one z two g.0 g.1 in
     let (s, u, first, second, held, forks, new, well, well_too) = by_names in
-    let (end, f, on) = end-of l.channel r.ends x.name (On s u) held in
+    let (end, f, on) = held-end l.channel r.ends x.name (On s u) held in
     let j : (l.place end ≡ At (Process p)) × IsJoined c end = own-place source c l p r there x.name end f in
     let e1 : performs c (Process p) (term_command (world_of source) p r i (Doing (b.Fork at x y one z two))).act ≡ Some a =
     subst (λ q. performs c (Process p) (term_command (world_of source) p r i q).act ≡ Some a) is e in

@@ -19,7 +19,7 @@ use Rattle.campl_service.specs.declared.phase.Phase.TheVariants as phase
 use Rattle.campl_peel.specs.Terms.{TermIsWellFormed, held_ends}
 use Rattle.campl_types.proofs.Truth.{or-first, or-second, not-true}
 use Rattle.campl_peel.proofs.Standing.{and-both}
-use Rattle.campl_meaning.proofs.Named.{at-most-more}
+use Rattle.campl_meaning.proofs.Named.{at-most-more, child-after-parent}
 use Rattle.campl_meaning.proofs.Independent.{number-of-child}
 use Rattle.campl_meaning.specs.States.{Message, Word, Pick, EndPair, Ends, Running, Attending, State, Runs, Serves}
 use Rattle.campl_meaning.specs.Wants.{child}
@@ -28,7 +28,9 @@ use Rattle.campl_meaning.specs.Views.{TakesAll}
 use Rattle.campl_meaning.specs.Apart.{Place, At, In, Gone, IsCarried, IsJoined, IsHeldBy, IsServedBy, IsOfKind, IsPlaced, IsApart, IsAtMost, graph, number_after, number_in_end, end_names}
 use Rattle.campl_meaning.specs.Lawful.{Channels, seen, IsTypedAt, Agree, IsPairOf, AreLastPairs, IsInPhase, Lawful}
 use Rattle.campl_meaning.proofs.Finite.{IsFinite}
-use Rattle.campl_kept_births.proofs.Naming.{of-none, of-some, some-at-most, some-or-none, after-own, before-child, after-child, child-after-parent, child-is-no-parent, longer, in-end-own, in-end-other, in-end-child, paths-differ}
+use Rattle.campl_meaning.proofs.Holding.{found-named}
+use Rattle.campl_peel.proofs.Peeling.{none-or}
+use Rattle.campl_kept_births.proofs.Naming.{of-none, of-some, some-at-most, after-own, before-child, after-child, child-is-no-parent, longer, in-end-own, in-end-other, in-end-child, paths-differ}
 
 -- Lists of ends
 
@@ -50,13 +52,6 @@ lists-found e (y ∷ es) x i = elim (split (same_name x y.0)) [
   | inr s ↦ let j : found x es ≡ Some e = rw s at i in or-second (same_end e y.1) (lists e es) (lists-found e es x j)
 ]
 
-pub found-among : (x : Name) (es : Ends) (e : End) → found x es ≡ Some e → is_among x (end_names es) ≡ true
-found-among x [] e i = absurd (cc i)
-found-among x (y ∷ es) e i = elim (split (same_name x y.0)) [
-  | inl s ↦ or-first (same_name x y.0) (is_among x (end_names es)) s
-  | inr s ↦ let j : found x es ≡ Some e = rw s at i in or-second (same_name x y.0) (is_among x (end_names es)) (found-among x es e j)
-]
-
 -- and what stands there is found, where names differ
 pub found-listed : (e : End) (es : Ends) → IsTrue (are_distinct (end_names es)) → lists e es ≡ true → (x : Name) × (found x es ≡ Some e)
 found-listed e [] d i = absurd (true≢false (sym i))
@@ -72,7 +67,7 @@ found-listed e (y ∷ es) d i = elim (split (same_end e y.1)) [
     later : (x : Name) → found x es ≡ Some e → not (is_among y.0 (end_names es)) ≡ true → found x (y ∷ es) ≡ Some e
     later x f n = elim (split (same_name x y.0)) [
       | inl s ↦
-          let a : is_among y.0 (end_names es) ≡ true = subst (λ z. is_among z (end_names es) ≡ true) (same-is x y.0 s) (found-among x es e f) in
+          let a : is_among y.0 (end_names es) ≡ true = subst (λ z. is_among z (end_names es) ≡ true) (same-is x y.0 s) (found-named x es e f) in
           absurd (true≢false (sym a ∙ not-true (is_among y.0 (end_names es)) n))
       | inr s ↦ rw s f
     ]
@@ -284,7 +279,7 @@ module _ (source : Program) (c d : Configuration) (l : Lawful source c) (p : Pat
 
   holder-after : (q : Path) (e : End) → IsJoined d e → place2 e ≡ At (Process q) → IsHeldBy d q e
   holder-after q e j i = elim (split (lists e (kin_ends kin))) [
-    | inl a ↦ kin-holds (some-or-none kin) a
+    | inl a ↦ kin-holds (none-or kin) a
     | inr a ↦ elim (split (lists e r2.ends)) [
       | inl b ↦
           let k : ◌≡◌ {A = Place} (At (Process p)) (At (Process q)) = sym (at-own e b) ∙ i in
@@ -346,7 +341,7 @@ module _ (source : Program) (c d : Configuration) (l : Lawful source c) (p : Pat
   nowhere-after : (e : End) → d.partner e ≡ None → place2 e ≡ Gone
   nowhere-after e i =
       at-other e (no (lists e (kin_ends kin)) (λ a. alone (h.own_joined e (inl a)))) (no (lists e r2.ends) (λ a. alone (h.own_joined e (inr a))))
-      ∙ h.rest_nowhere e (elim (some-or-none (c.partner e)) [ inl n ↦ n | inr j ↦ absurd (alone (joined-on e j)) ]) i
+      ∙ h.rest_nowhere e (elim (none-or (c.partner e)) [ inl n ↦ n | inr j ↦ absurd (alone (joined-on e j)) ]) i
     where
       alone : IsJoined d e → ⊥
       alone j = cc (i, j.1)
@@ -388,7 +383,7 @@ module _ (source : Program) (c d : Configuration) (l : Lawful source c) (p : Pat
 
   -- a child's path is in no other
   none-behind : (q : Path) (t : State) → d.nodes (Process q) ≡ Some t → number_after (p ++ (birth ∷ [])) q ≡ None
-  none-behind q t is = elim (some-or-none (number_after (p ++ (birth ∷ [])) q)) [
+  none-behind q t is = elim (none-or (number_after (p ++ (birth ∷ [])) q)) [
     | inl n ↦ n
     | inr (k, e) ↦ absurd (behind k e (h.whose (Process q) t is))
   ]
@@ -447,7 +442,7 @@ module _ (source : Program) (c d : Configuration) (l : Lawful source c) (p : Pat
   ]
 
   kin-ends : (e : End) → IsJoined d e → number_in_end (p ++ (birth ∷ [])) e ≡ None
-  kin-ends e j = elim (some-or-none (number_in_end (p ++ (birth ∷ [])) e)) [
+  kin-ends e j = elim (none-or (number_in_end (p ++ (birth ∷ [])) e)) [
     | inl n ↦ n
     | inr (k, i) ↦ absurd (elim (h.joined e j) [
       | inl o ↦
@@ -519,7 +514,7 @@ module _ (source : Program) (c d : Configuration) (l : Lawful source c) (p : Pat
 
   -- an end that owes is joined
   owes-joined : (z a b : End) (before after : List Message) → c.owed z ≡ before ++ (EndPair a b ∷ after) → IsJoined c z
-  owes-joined z a b before after i = elim (some-or-none (c.partner z)) [
+  owes-joined z a b before after i = elim (none-or (c.partner z)) [
     | inl n ↦ absurd (let no : before ++ (EndPair a b ∷ after) ≡ [] = sym i ∙ l.apart.placed.idle z n in filled before no)
     | inr j ↦ j
   ]

@@ -49,16 +49,6 @@ after-child (a ∷ p) (x ∷ q) b k e = elim (split (same_birth a x)) [
   | inr i ↦ let n : None ≡ Some k = rw i at e in absurd (cc n)
 ]
 
-pub some-or-none : {A : Type 0} (o : Option A) → (o ≡ None) ⊎ ((a : A) × (o ≡ Some a))
-some-or-none None = inl refl
-some-or-none (Some a) = inr (a, refl)
-
-pub child-after-parent : (p : Path) (b : Birth) → number_after (p ++ (b ∷ [])) p ≡ None
-child-after-parent p b = elim (some-or-none (number_after (p ++ (b ∷ [])) p)) [
-  | inl n ↦ n
-  | inr (k, e) ↦ absurd (let no : Some b.step ≡ None = sym (after-child p p b k e) ∙ after-own p in cc no)
-]
-
 pub parent-is-no-child : (p : Path) (b : Birth) → same_path p (p ++ (b ∷ [])) ≡ false
 parent-is-no-child [] b = refl
 parent-is-no-child (a ∷ p) b = rw (same_birth-refl a) (parent-is-no-child p b)

@@ -22,7 +22,8 @@ use Rattle.campl_meaning.specs.Reductions.{Configuration}
 use Rattle.campl_meaning.specs.Views.{view_in, TakesAll}
 use Rattle.campl_meaning.specs.Apart.{At, IsJoined}
 use Rattle.campl_meaning.specs.Lawful.{Channels, seen, Agree, Lawful}
-use Rattle.campl_kept_births.proofs.Naming.{longer, some-at-most, some-or-none, in-end-own}
+use Rattle.campl_peel.proofs.Peeling.{none-or}
+use Rattle.campl_kept_births.proofs.Naming.{longer, some-at-most, in-end-own}
 
 -- Halves
 
@@ -53,7 +54,7 @@ wire p r n Input f e = elim (split (same_end (born p r n First) e)) [
 module _ (source : Program) (c : Configuration) (l : Lawful source c) (p : Path) (r : Running) (there : c.nodes (Process p) ≡ Some (Runs r)) where
   -- what the step bears has no partner yet
   pub fresh : (e : End) → e.bearer ≡ p → e.step ≡ suc r.steps → c.partner e ≡ None
-  fresh e b s = elim (some-or-none (c.partner e)) [
+  fresh e b s = elim (none-or (c.partner e)) [
     | inl n ↦ n
     | inr j ↦
         let m : e.step ≤ r.steps = some-at-most _ _ r.steps (in-end-own p e b) (l.apart.named.channels p r e there j) in

@@ -28,10 +28,10 @@ use Rattle.campl_meaning.specs.Apart.{Place, At, IsJoined, Holder, node_of, grap
 use Rattle.campl_meaning.specs.Lawful.{Channels, IsTypedAt, Agree, Lawful}
 use Rattle.campl_peel.proofs.Terms.{term-peels, ends-with}
 use Rattle.campl_types.proofs.Truth.{not-true}
-use Rattle.campl_kept_births.proofs.Naming.{some-or-none}
 use Rattle.campl_kept_births.proofs.Listed.{IsTidy, found-kept, found-still, not-kept, found-more, lists-first, lists-more, lists-later, tidy-those, tidy-more}
 use Rattle.campl_meaning.proofs.Finite.{finite-of, finite-kept}
 use Rattle.campl_meaning.proofs.Agreeing.{agree-turned}
+use Rattle.campl_peel.proofs.Peeling.{none-or}
 use Rattle.campl_kept_births.proofs.Frame.{some-is, lists, lists-found, found-listed, same-held, agree-same, settled, Hands, at-other, at-own, at-kin, lawful-after}
 use Rattle.campl_kept_births.proofs.Masks.{ends-apart, masked, standing-some, standing-none, mask, unmask, at-holder, node-at}
 use Rattle.campl_kept_births.proofs.Newborn.{halves-differ, born-differ, wire, born-fresh, born-idle, not-born, own-place, no-child-yet, child-not, family, parent-there, child-there, others-there, new-agree}
@@ -129,7 +129,7 @@ module _ (source : Program) (c : Configuration) (l : Lawful source c) (p : Path)
   tidy = record { names = l.apart.placed.names p r there; once = λ y z e f g. l.apart.placed.ends p r y z e there f g }
 
   no-x : found x r.ends ≡ None
-  no-x = elim (some-or-none (found x r.ends)) [
+  no-x = elim (none-or (found x r.ends)) [
     | inl n ↦ n
     | inr (e, f) ↦
         let t : (ch : Channel) × (l.channel e ≡ Some ch) = l.has_type p e (r, x, there, f) in
@@ -335,7 +335,7 @@ module _ (source : Program) (c : Configuration) (l : Lawful source c) (p : Path)
       child-other = child-not p r
 
       no-child : c.nodes (child p r) ≡ None
-      no-child = elim (some-or-none (c.nodes (child p r))) [ inl n ↦ n | inr (s, i) ↦ absurd (no-child-yet source c l p r there s i) ]
+      no-child = elim (none-or (c.nodes (child p r))) [ inl n ↦ n | inr (s, i) ↦ absurd (no-child-yet source c l p r there s i) ]
 
       fresh-both : (e : End) → Lies (both_ways move.channels) e → c.partner e ≡ None
       fresh-both e (inl i) = subst (λ z. c.partner z ≡ None) i (born-fresh source c l p r there 1 First)

@@ -39,7 +39,8 @@ use Rattle.campl_meaning.specs.Apart.{Place, At, In, Gone, IsCarried, IsJoined, 
 use Rattle.campl_meaning.specs.Lawful.{Channels, seen, IsTypedAt, IsPairOf, Agree, Lawful}
 use Rattle.campl_meaning.proofs.Agreeing.{agree-turned}
 use Rattle.campl_meaning.proofs.Pairs.{pair-or-none}
-use Rattle.campl_kept_births.proofs.Naming.{some-or-none}
+use Rattle.campl_meaning.proofs.Holding.{held-end}
+use Rattle.campl_peel.proofs.Peeling.{none-or}
 use Rattle.campl_kept_births.proofs.Listed.{IsTidy, found-more, found-without, still-without, lists-first, lists-more, lists-later, tidy-more, tidy-without}
 use Rattle.campl_kept_births.proofs.Bare.{IsSplitAt, split-at}
 use Rattle.campl_kept_births.proofs.Frame.{some-is, lists, lists-found, found-listed, agree-same, carries, settled, Hands, at-other, at-own, lawful-after}
@@ -61,13 +62,6 @@ pub beside : (f : Who → Option State) (u : Who) (s : State) (w : Who) (x : Sta
 beside f u s w x n i = elim (split (same_who u w)) [ inl a ↦ absurd (n (sym (same_who-is u w a))) | inr a ↦ rw a i ]
 
 -- Held channels
-
--- what is held has an end
-pub end-of : (channel : Channels) (es : Ends) (x : Name) (ch : Channel) → held_ends channel es x ≡ Some ch → (e : End) × (found x es ≡ Some e) × (channel e ≡ Some ch)
-end-of channel es x ch i = elim (some-or-none (found x es)) [
-  | inl n ↦ absurd (let j : held_ends channel es x ≡ None = rw n refl in let no : Some ch ≡ None = sym i ∙ j in cc no)
-  | inr (e, f) ↦ let j : held_ends channel es x ≡ channel e = rw f refl in (e, f, sym j ∙ i)
-]
 
 -- and what has an end and a channel is held
 pub held-of : (channel : Channels) (es : Ends) (x : Name) (e : End) (ch : Channel) → found x es ≡ Some e → channel e ≡ Some ch → held_ends channel es x ≡ Some ch
@@ -93,7 +87,7 @@ held-without channel channel2 x es h = fun_ext (λ y. elim (split (same_name x y
 
     kept : (y : Name) → same_name x y ≡ false → (o : Option End) → found y es ≡ o → held_ends channel2 (without_end x es) y ≡ without x (held_ends channel es) y
     kept y s (Some e) i = rw (still-without x es y e s i, s, i) (h y e s i)
-    kept y s None i = elim (some-or-none (found y (without_end x es))) [
+    kept y s None i = elim (none-or (found y (without_end x es))) [
       | inl n ↦ rw (n, s, i) refl
       | inr (e, f) ↦ absurd (let no : None ≡ Some e = sym i ∙ (found-without x es y e f).1 in cc no)
     ]
@@ -222,7 +216,7 @@ module _ (source : Program) (c : Configuration) (l : Lawful source c) (p : Path)
   -- What is held
 
   free-name : (n : Name) → without x (held_ends l.channel r.ends) n ≡ None → found n (without_end x r.ends) ≡ None
-  free-name n i = elim (some-or-none (found n (without_end x r.ends))) [
+  free-name n i = elim (none-or (found n (without_end x r.ends))) [
     | inl j ↦ j
     | inr (e, f) ↦
         let g : (same_name x n ≡ false) × (found n r.ends ≡ Some e) = found-without x r.ends n e f in
@@ -555,7 +549,7 @@ split-kept source c a p r i at x y z rest l there is e =
     let good : TermIsWellFormed (world_of source) t.vars (held_ends l.channel r.ends) (Doing (b.Then (b.Split at x y z) rest)) =
     subst (TermIsWellFormed (world_of source) t.vars (held_ends l.channel r.ends)) is t.term in
     let (s, u, first, second, held, splits, new, well) = good.0 in
-    let (end, f, on) = end-of l.channel r.ends x.name (On s u) held in
+    let (end, f, on) = held-end l.channel r.ends x.name (On s u) held in
     let e1 : performs c (Process p) (term_command (world_of source) p r i (Doing (b.Then (b.Split at x y z) rest))).act ≡ Some a =
     subst (λ q. performs c (Process p) (term_command (world_of source) p r i q).act ≡ Some a) is e in
     let next : End → End → Option State = λ g h. Some (onward r (Doing rest) r.variables ((z.name, h) ∷ (y.name, g) ∷ without_end x.name r.ends)) in

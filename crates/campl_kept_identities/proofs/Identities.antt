@@ -24,20 +24,13 @@ use Rattle.campl_meaning.specs.Lawful.{Channels, IsTypedAt, Lawful}
 use Rattle.campl_meaning.specs.Kept.{Goes}
 use Rattle.campl_meaning.specs.Ends.{NeverActs, IsBrokenAt}
 use Rattle.campl_meaning.proofs.Steps.{does-of-goes, goes-of}
+use Rattle.campl_meaning.proofs.Holding.{held-end}
 use Rattle.campl_kept_identities.specs.Identities.{IsIdentityAt}
 use Rattle.campl_kept_identities.proofs.Takes.{joined-views}
 use Rattle.campl_kept_identities.proofs.Around.{around}
 use Rattle.campl_kept_identities.proofs.Links.{IsIdentity, linked-lawful}
 
 -- An end under a name
-
--- a channel that is held stands for an end under its name
-pub held-end : (channel : Channels) (es : Ends) (n : Name) (h : Channel) → held_ends channel es n ≡ Some h → (e : End) × (found n es ≡ Some e) × (channel e ≡ Some h)
-held-end channel es n h i = go (found n es) refl
-  where
-    go : (o : Option End) → found n es ≡ o → (e : End) × (found n es ≡ Some e) × (channel e ≡ Some h)
-    go None j = let q : None ≡ Some h = rw j at i in absurd (cc q)
-    go (Some e) j = let q : channel e ≡ Some h = rw j at i in (e, j, q)
 
 -- and where none is held, the end that stands there has nothing more
 pub not-held : (channel : Channels) (es : Ends) (n : Name) (e : End) → held_ends channel es n ≡ None → found n es ≡ Some e → channel e ≡ None

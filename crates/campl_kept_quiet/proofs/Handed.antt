@@ -18,13 +18,11 @@ use Rattle.campl_meaning.specs.States.{Ends}
 use Rattle.campl_meaning.specs.Bodies.{handed, one_more, both_ends}
 use Rattle.campl_meaning.specs.Apart.{end_names}
 use Rattle.campl_meaning.specs.Lawful.{Channels}
+use Rattle.campl_meaning.proofs.Holding.{found-named}
+use Rattle.campl_peel.proofs.Standing.{and-both}
 use Rattle.campl_kept_quiet.specs.Quiet.{IsAlike}
 
 -- Names
-
-and-both : (a b : Bool) → IsTrue (a && b) → IsTrue a × IsTrue b
-and-both true b h = (refl, h)
-and-both false b h = absurd (cc h)
 
 not-true : (a : Bool) → IsTrue (not a) → a ≡ true → ⊥
 not-true true h i = absurd (cc h)
@@ -37,15 +35,6 @@ distinct-right (x ∷ xs) ys h = distinct-right xs ys (and-both (not (is_among x
 pub names-append : (fs gs : Ends) → end_names (fs ++ gs) ≡ end_names fs ++ end_names gs
 names-append [] gs = refl
 names-append (f ∷ fs) gs = ap (λ z. f.0 ∷ z) (names-append fs gs)
-
--- what is found stands among the names
-found-named : (y : Name) (fs : Ends) (e : End) → found y fs ≡ Some e → is_among y (end_names fs) ≡ true
-found-named y [] e i = absurd (cc i)
-found-named y (f ∷ fs) e i = go (same_name y f.0) i (found-named y fs e)
-  where
-    go : (b : Bool) → (if b then Some f.1 else found y fs) ≡ Some e → (found y fs ≡ Some e → is_among y (end_names fs) ≡ true) → (b || is_among y (end_names fs)) ≡ true
-    go true j later = refl
-    go false j later = later j
 
 -- Ends in lists
 

@@ -10,6 +10,7 @@ use Rattle.campl_meaning.specs.States.{Ends}
 use Rattle.campl_meaning.specs.Bodies.{without_end}
 use Rattle.campl_meaning.specs.Apart.{end_names}
 use Rattle.campl_meaning.specs.Lawful.{Channels}
+use Rattle.campl_peel.proofs.Standing.{and-both}
 
 -- what is found behind the end that goes
 pub found-without : (x y : Name) (es : Ends) → found y (without_end x es) ≡ (if same_name x y then None else found y es)
@@ -58,10 +59,6 @@ without-held channel x es = fun_ext (λ y. go y (same_name x y) refl)
     go : (y : Name) (b : Bool) → same_name x y ≡ b → held_ends channel (without_end x es) y ≡ without x (held_ends channel es) y
     go y true i = rw (found-without x y es, i) refl
     go y false i = rw (found-without x y es, i) refl
-
-and-both : (a b : Bool) → IsTrue (a && b) → IsTrue a × IsTrue b
-and-both true b h = (refl, h)
-and-both false b h = absurd (cc h)
 
 both-and : (a b : Bool) → IsTrue a → IsTrue b → IsTrue (a && b)
 both-and true b h k = k

@@ -28,9 +28,9 @@ after-itself [] = refl
 after-itself (x ∷ p) = rw (same_birth-refl x) (after-itself p)
 
 -- nor a child's path behind its parent's
-after-child : (p : Path) (x : Birth) → number_after (p ++ (x ∷ [])) p ≡ None
-after-child [] x = refl
-after-child (y ∷ p) x = rw (same_birth-refl y) (after-child p x)
+pub child-after-parent : (p : Path) (x : Birth) → number_after (p ++ (x ∷ [])) p ≡ None
+child-after-parent [] x = refl
+child-after-parent (y ∷ p) x = rw (same_birth-refl y) (child-after-parent p x)
 
 -- what goes on behind a child goes on behind its parent, with the child's step
 behind-child : (p q : Path) (x : Birth) (k : ℕ) → number_after (p ++ (x ∷ [])) q ≡ Some k → number_after p q ≡ Some x.step
@@ -185,7 +185,7 @@ module _ (w : World) (c d : Configuration) (l : IsNamed c) (paired : Paired c) (
   born-end e b st q o (inr (inl (j, m))) = rw (j, b, same_path-refl p) (omega (arith, m, st))
   born-end e b st q o (inr (inr (j, m))) = rw (j, b) (elim (split (same_path (p ++ (birth r ∷ [])) p)) [
     | inl a ↦ absurd (longer p (birth r) (same_path-is (p ++ (birth r ∷ [])) p a))
-    | inr a ↦ rw (a, after-child p (birth r)) tt
+    | inr a ↦ rw (a, child-after-parent p (birth r)) tt
   ])
 
   channels-after : (q : Path) (o : Running) (e : End) → d.nodes (Process q) ≡ Some (Runs o) → IsJoined d e → IsAtMost (number_in_end q e) o.steps

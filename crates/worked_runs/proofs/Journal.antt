@@ -61,9 +61,16 @@ names = naming_at_start w
 -- an entry of one step by this node, and what follows it
 then : (c d : Configuration) (who : Who) (first : Entry) (rest : List Entry) → first.weight ≡ 1 → reduce w c who 0 ≡ Some (made c who) → Says names first who (made c who).0 names
     → IsRunOf w names (made c who).1 rest names d → IsRunOf w names c (first ∷ rest) names d
-then c d who first rest i r says more =
-    (who, (made c who).0, names, (made c who).1, (subst (λ k. 1 ≤ k) (sym i) one, inr i), says,
-    subst (λ k. Times w k c who (made c who).0 (made c who).1) (sym i) ((made c who).1, (0, r), refl), more)
+then c d who first rest i r says more = (
+  who,
+  (made c who).0,
+  names,
+  (made c who).1,
+  (subst (λ k. 1 ≤ k) (sym i) one, inr i),
+  says,
+  subst (λ k. Times w k c who (made c who).0 (made c who).1) (sym i) ((made c who).1, (0, r), refl),
+  more,
+)
 
 abbrev runs : Who
 runs = Process []
@@ -100,15 +107,17 @@ over : IsRunOf w names at7 [] names at7
 over = (refl, refl)
 
 pub runs-by-it : IsRunFromStart w [] journal at7
-runs-by-it = (names,
-    then at0 at7 runs picks (offers ∷ puts ∷ gets ∷ picks-close ∷ closes ∷ halts ∷ []) refl refl (record { kind = refl; process = refl; between = names; child = refl; channels = refl; end = refl; second = tt; message = refl })
-    (then at1 at7 serves offers (puts ∷ gets ∷ picks-close ∷ closes ∷ halts ∷ []) refl refl (record { kind = refl; process = refl; between = names; child = refl; channels = refl; end = refl; second = tt; message = refl })
-    (then at2 at7 runs puts (gets ∷ picks-close ∷ closes ∷ halts ∷ []) refl refl (record { kind = refl; process = refl; between = names; child = refl; channels = refl; end = refl; second = tt; message = refl })
-    (then at3 at7 serves gets (picks-close ∷ closes ∷ halts ∷ []) refl refl (record { kind = refl; process = refl; between = names; child = refl; channels = refl; end = refl; second = tt; message = refl })
-    (then at4 at7 runs picks-close (closes ∷ halts ∷ []) refl refl (record { kind = refl; process = refl; between = names; child = refl; channels = refl; end = refl; second = tt; message = refl })
-    (then at5 at7 serves closes (halts ∷ []) refl refl (record { kind = refl; process = refl; between = names; child = refl; channels = refl; end = refl; second = tt; message = refl })
-    (then at6 at7 runs halts ([]) refl refl (record { kind = refl; process = refl; between = names; child = refl; channels = refl; end = refl; second = tt; message = tt })
-    over)))))))
+runs-by-it = (
+  names,
+  then at0 at7 runs picks (offers ∷ puts ∷ gets ∷ picks-close ∷ closes ∷ halts ∷ []) refl refl (record { kind = refl; process = refl; between = names; child = refl; channels = refl; end = refl; second = tt; message = refl })
+      (then at1 at7 serves offers (puts ∷ gets ∷ picks-close ∷ closes ∷ halts ∷ []) refl refl (record { kind = refl; process = refl; between = names; child = refl; channels = refl; end = refl; second = tt; message = refl })
+      (then at2 at7 runs puts (gets ∷ picks-close ∷ closes ∷ halts ∷ []) refl refl (record { kind = refl; process = refl; between = names; child = refl; channels = refl; end = refl; second = tt; message = refl })
+      (then at3 at7 serves gets (picks-close ∷ closes ∷ halts ∷ []) refl refl (record { kind = refl; process = refl; between = names; child = refl; channels = refl; end = refl; second = tt; message = refl })
+      (then at4 at7 runs picks-close (closes ∷ halts ∷ []) refl refl (record { kind = refl; process = refl; between = names; child = refl; channels = refl; end = refl; second = tt; message = refl })
+      (then at5 at7 serves closes (halts ∷ []) refl refl (record { kind = refl; process = refl; between = names; child = refl; channels = refl; end = refl; second = tt; message = refl })
+      (then at6 at7 runs halts ([]) refl refl (record { kind = refl; process = refl; between = names; child = refl; channels = refl; end = refl; second = tt; message = tt })
+      over)))))),
+)
 
 pub seven : steps_of journal ≡ 7
 seven = refl
