@@ -26,7 +26,7 @@ pub follows : {A B : Type 0} (seen : A → B) (j k : Judged plain.LinFault B) (r
 follows seen j k r i a = subst (λ h. Answers seen h r) (sym i) a
 
 -- a fault of the sequential rules
-pub from-seq : {B : Type 0} (j : seq.Judged SeqFault B) (fault : SeqFault) → seq_answered.Refused j fault → Refused (from_seq j) (from_fault fault)
+pub from-seq : {B : Type 0} (j : seq.Judged SeqFault B) (fault : SeqFault) → seq_answered.StopsAt j fault → Refused (from_seq j) (from_fault fault)
 from-seq j fault (inr e) = inr (ap from_fault e)
 from-seq j (s.TypeDiffers at found wanted) (inl e) = inl (ap from_seq e)
 from-seq j (s.NeedsType at) (inl e) = inl (ap from_seq e)

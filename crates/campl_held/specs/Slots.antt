@@ -1,8 +1,8 @@
 -- Held channels as code keeps them: slots in the order in which the channels came, of which those of channels
 -- that were given up are empty.
-use Rattle.std.specs.Prelude.{◌≡◌, ℕ, suc, Bool, false, List, [], ◌∷◌, Option, Some, None, cond, map, option_map, slice_get}
+use Rattle.std.specs.Prelude.{◌≡◌, ℕ, suc, Bool, true, false, not, ◌||◌, List, [], ◌∷◌, Option, Some, None, cond, map, option_map, slice_get}
 use Rattle.campl_tree.specs.View.{view_chan}
-use Rattle.campl_types.specs.Names.{Name, same_name}
+use Rattle.campl_types.specs.Names.{Name, same_name, is_among}
 use Rattle.campl_types.specs.Held.{Channel, On}
 use Rattle.campl_linear.specs.Holding.{Holding}
 use Rattle.campl_held.specs.declared.channel.HeldChannel.{HeldChannel}
@@ -45,3 +45,12 @@ in_slot (Some o) = o
 abbrev pub slot_at : List (Option HeldChannel) → Option ℕ → Option HeldChannel
 slot_at s None = None
 slot_at s (Some n) = in_slot (slice_get s n)
+
+-- whether a name is among those that are kept, or among none of those that aren't
+abbrev pub is_kept : (keep : Bool) → List Name → Name → Bool
+is_kept true names x = is_among x names
+is_kept false names x = not (is_among x names)
+
+-- whether a name is in neither list
+abbrev pub is_outside : (inputs outputs : List Name) → Name → Bool
+is_outside inputs outputs x = not (is_among x inputs || is_among x outputs)
