@@ -23,7 +23,7 @@ or-turn true false c = refl
 or-turn false true c = refl
 or-turn false false c = refl
 
-among-with : (x y : Name) (vs : List Name) → is_among x (with_name y vs) ≡ (same_name x y || is_among x vs)
+pub among-with : (x y : Name) (vs : List Name) → is_among x (with_name y vs) ≡ (same_name x y || is_among x vs)
 among-with x y vs = go (is_among y vs) refl
   where
     there : (x ≡ y) ⊎ (same_name x y ≡ false) → is_among y vs ≡ true → is_among x vs ≡ (same_name x y || is_among x vs)
@@ -131,9 +131,9 @@ name-found bound found new x i e = record { told = λ n. ap (is_among n) e ∙ a
 
 -- One turn of a loop
 
-pub turn : (bound : List Name) (whole rest one next : Test) (first now then' final : List Name)
-    → (Gathers bound rest now final → Gathers bound whole first final) → rest ≡ either_of one next → Gathers bound one now then' → Gathers bound next then' final → Gathers bound whole first final
-turn bound whole rest one next first now then' final inv i a b = inv (subst (λ h. Gathers bound h now final) (sym i) (gathers-both bound one next now then' final a b))
+pub turn : {Goal : Type 0} (bound : List Name) (rest one next : Test) (now then' final : List Name)
+    → (Gathers bound rest now final → Goal) → rest ≡ either_of one next → Gathers bound one now then' → Gathers bound next then' final → Goal
+turn bound rest one next now then' final goal i a b = goal (subst (λ h. Gathers bound h now final) (sym i) (gathers-both bound one next now then' final a b))
 
 pub drop-at : {A : Type 0} (xs : List A) (i : ℕ) (x : A) → i < length xs → x ≡ get_or xs i x → drop i xs ≡ x ∷ drop (i + 1) xs
 drop-at xs i x l is = drop_more xs i x l ∙ ap (λ y. y ∷ drop (i + 1) xs) (sym is)

@@ -1,5 +1,5 @@
 -- What is free in each command and each row.
-use Rattle.std.proofs.Common.{◌≡◌, ◌∙◌, refl, sym, ap, subst, take, Bool, true, false, not, ◌&&◌, ◌||◌, List, [], ◌∷◌, Option, Some, None, ℕ, ◌+◌, ◌<◌, ◌≤◌, length, drop, get_or, map}
+use Rattle.std.proofs.Common.{◌≡◌, ◌∙◌, refl, sym, ap, subst, take, Bool, true, false, not, ◌&&◌, ◌||◌, List, [], ◌∷◌, Option, Some, None, Result, Ok, Err, OnOk, ℕ, ◌+◌, ◌<◌, ◌≤◌, length, drop, get_or, map}
 use Rattle.std.proofs.Math.Path.{fun_ext}
 use Rattle.std.proofs.lemmas.List.{drop_all}
 use Rattle.campl_tree.specs.declared.place.Place.{Place}
@@ -10,6 +10,7 @@ use Rattle.campl_tree.specs.declared.process.Link.{Link}
 use Rattle.campl_tree.specs.declared.process.Body.{Body}
 use Rattle.campl_tree.specs.declared.process.Body as code
 use Rattle.campl_tree.specs.declared.process.Action as action
+use Rattle.campl_tree.specs.declared.process.Last.{Last}
 use Rattle.campl_tree.specs.declared.process.Last.TheVariants as last
 use Rattle.campl_tree.specs.declared.process.HcaseRow.{HcaseRow}
 use Rattle.campl_tree.specs.declared.process.Branch.{Branch}
@@ -22,6 +23,8 @@ use Rattle.campl_types.specs.Names.{Name, same_name, is_among}
 use Rattle.campl_types.specs.World.{names_of}
 use Rattle.campl_types.specs.Headers.{link_names}
 use Rattle.campl_types.specs.Free.{channel_of, channels_bound, is_free, is_free_in_rows, is_free_in_branches, is_free_in_cases, is_free_in_parts}
+use Rattle.campl_names.specs.Scope.{with_names}
+use Rattle.campl_names.proofs.Scopes.{kept-under}
 use Rattle.campl_free.specs.Gathers.{Test, Gathers, GathersBehind, nothing, is_name, is_one_of, either_of, under, named_by, free_in, free_in_rows, free_in_branches, free_in_cases, free_in_parts, behind, inside}
 use Rattle.campl_free.proofs.Gathered.{kept-inside, gathers-nothing, gathers-none, gathers-both, gathers-under, drop-at}
 
@@ -75,13 +78,13 @@ module _ (at : Place) where
 
 -- Bodies
 
+free-step : (a : b.Action) (rest : b.Body) → free_in (b.Then a rest) ≡ either_of (is_name (channel_of a)) (under (channels_bound a) (free_in rest))
+unfolding free_in either_of is_name under
+free-step a rest = refl
+
 free-then : (actions : List b.Action) (end : b.Body) → free_in (actions_then actions end) ≡ behind actions (free_in end)
 free-then [] end = refl
-free-then (a ∷ more) end = step ∙ ap (λ f. either_of (is_name (channel_of a)) (under (channels_bound a) f)) (free-then more end)
-  where
-    step : free_in (b.Then a (actions_then more end)) ≡ either_of (is_name (channel_of a)) (under (channels_bound a) (free_in (actions_then more end)))
-    unfolding free_in either_of is_name under
-    step = refl
+free-then (a ∷ more) end = free-step a (actions_then more end) ∙ ap (λ f. either_of (is_name (channel_of a)) (under (channels_bound a) f)) (free-then more end)
 
 pub free-body : (q : Body) → free_in (view_body q) ≡ behind (map view_action (code.out-Body q).actions) (free_in (view_last (code.out-Body q).last))
 free-body q = ap free_in (view_body-out q) ∙ free-then (map view_action (code.out-Body q).actions) (view_last (code.out-Body q).last)
@@ -95,6 +98,19 @@ body-gathered q actions bound inner old mid new i g j a =
 -- what was bound round a body stays
 pub body-kept : (bound inner last : List Name) (actions : List b.Action) (m : ℕ) → inner ≡ inside bound actions → last ≡ inner → m ≡ length bound → take m last ≡ bound
 body-kept bound inner last actions m i j k = rw (k, j, i) (kept-inside bound actions)
+
+-- and behind a plug
+pub plug-kept : (bound inner last xs : List Name) (m : ℕ) → inner ≡ with_names bound xs → last ≡ inner → m ≡ length bound → take m last ≡ bound
+plug-kept bound inner last xs m i j k = rw (k, j, i) (kept-under bound xs)
+
+-- a last command that names in two places
+pub two-gathered : (x : Last) (bound : List Name) (f g : Test) (old mid new : List Name) → free_in (view_last x) ≡ either_of f g → Gathers bound f old mid → Gathers bound g mid new
+    → Gathers bound (free_in (view_last x)) old new
+two-gathered x bound f g old mid new i a b = subst (λ h. Gathers bound h old new) (sym i) (gathers-both bound f g old mid new a b)
+
+pub ok-then : {A E P Q : Type 0} (r : Result A E) → OnOk r P → (P → Q) → OnOk r Q
+ok-then (Ok x) p f = f p
+ok-then (Err e) p f = p
 
 -- Rows
 

@@ -67,8 +67,7 @@ fn divide(
     second: ChanType,
     held: &Held,
 ) -> Result<(Held, Held), AllocError>
-    requires { found y.now.name (view_held held.now) ≡ None }
-    requires { found z.now.name (view_held held.now) ≡ None }
+    requires { (found y.now.name (view_held held.now) ≡ None) × (found z.now.name (view_held held.now) ≡ None) }
     ensures left { IfOk result (λ p. view_held p.0 ≡ left_holding y.now.name (On side (view_chan first)) (view_body left.now) (view_held held.now)) }
     ensures right { IfOk result (λ p. view_held p.1 ≡ right_holding z.now.name (On side (view_chan second)) (view_body left.now) (view_held held.now)) }
 {

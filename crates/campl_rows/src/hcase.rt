@@ -1,5 +1,5 @@
 //! The rows of `hcase`.
-ghost use Rattle.std.specs.Prelude.{◌≡◌, [], IfOk, OnOk, map};
+ghost use Rattle.std.specs.Prelude.{◌≡◌, [], IfOk, OnOk, map, slice_get};
 ghost use Rattle.std.specs.Option.{option_copied};
 ghost use Rattle.campl_tree.specs.View.{view_decl, view_hcase_row, hcase_rows};
 ghost use Rattle.campl_names.specs.NameSet.{with_name, HaveSame};
@@ -11,7 +11,7 @@ ghost use Rattle.campl_held.specs.Asked.{view_offer};
 ghost use Rattle.campl_held.specs.Chosen.{view_choices, view_lines, ChoicesAreDeclared};
 ghost use Rattle.campl_held.specs.Slots.{view_held};
 ghost use Rattle.campl_rows.specs.Steps.{offers_stand, rows_stand, row_offered, row_holding};
-ghost use Rattle.campl_rows.specs.Covered.{first_missing};
+ghost use Rattle.campl_rows.specs.Covered.{first_missing, missing_of};
 
 use campl_held::{
     Constructors, Held, LinFault, Lines, Offer, row_type, used_to_offer, wrong_action,
@@ -122,6 +122,7 @@ fn rows_offered(
 }
 
 /// Whether a row's constructor is offered and in no row before, of which it is one from now on.
+#[tactic(auto, using(crate::proofs::Listed::hcase_row))]
 fn row_offered(
     alloc: Global,
     world: &World,
@@ -132,7 +133,7 @@ fn row_offered(
 ) -> Result<(), LinFault>
     requires { ChoicesAreDeclared (map view_decl world.now) }
     ensures judged { Answers (λ _. fine) (row_offered x.now (view_offer (map view_decl world.now) offer.entry) before.old (view_hcase_row row.now).0) result }
-    ensures before { OnOk result (before.new ≡ with_name (view_hcase_row row.now).0.name before.old) }
+    ensures added { OnOk result (before.new ≡ with_name (view_hcase_row row.now).0.name before.old) }
 {
     match row_type(alloc, world, &row.constructor, x, offer) {
         Ok(_) => {}
@@ -142,9 +143,10 @@ fn row_offered(
 }
 
 /// Refuses a constructor that has a row before, and puts it among those that have one.
+#[tactic(auto, using(crate::proofs::Listed::first))]
 fn first_row(alloc: Global, constructor: &Ident, before: &mut NameSet) -> Result<(), LinFault>
     ensures judged { Answers (λ _. fine) (definition.first_row constructor.now before.old) result }
-    ensures before { OnOk result (before.new ≡ with_name constructor.now.name before.old) }
+    ensures added { OnOk result (before.new ≡ with_name constructor.now.name before.old) }
 {
     if before.has(&constructor.name) {
         return Err(case_twice(alloc, constructor));
@@ -166,11 +168,12 @@ fn case_twice(alloc: Global, constructor: &Ident) -> LinFault
 }
 
 /// Refuses the first constructor without a row.
-fn each_has_row(
+#[tactic(auto, using(crate::proofs::Covered::covered))]
+fn each_has_row<'a>(
     alloc: Global,
-    world: &World,
+    world: &'a World,
     at: Place,
-    constructors: Constructors<'_>,
+    constructors: Constructors<'a>,
     names: &NameSet,
 ) -> Result<(), LinFault>
     ensures { Answers (λ _. fine) (definition.each_has_row at (view_choices (map view_decl world.now) constructors.entry) names.now) result }
@@ -186,13 +189,24 @@ fn first_missing<'a>(lines: Lines<'a>, names: &NameSet) -> Option<&'a Name>
     ensures { option_copied result ≡ first_missing (view_lines lines.entry) names.now }
 {
     for number in 0..lines.len() {
-        if let Some(constructor) = lines.name(number) {
-            if !names.has(constructor) {
-                return Some(constructor);
-            }
+        match missing_at(lines, number, names) {
+            Some(constructor) => return Some(constructor),
+            None => {}
         }
     }
     None
+}
+
+/// The constructor of a line, counted from 0, where it isn't among these names.
+fn missing_at<'a>(lines: Lines<'a>, number: usize, names: &NameSet) -> Option<&'a Name>
+    ensures { option_copied result ≡ missing_of (slice_get (view_lines lines.entry) number) names.now }
+{
+    let constructor = lines.name(number)?;
+    if names.has(constructor) {
+        None
+    } else {
+        Some(constructor)
+    }
 }
 
 /// That the constructor has no row (E46), or that memory wants.
@@ -206,6 +220,7 @@ fn case_missing(alloc: Global, at: Place, constructor: &Name) -> LinFault
 }
 
 /// Refuses no row at all.
+#[tactic(auto, using(crate::proofs::Listed::some))]
 fn some_row(
     alloc: Global,
     world: &World,
@@ -217,8 +232,8 @@ fn some_row(
     ensures { Answers (λ _. fine) (definition.some_row at x.now (view_offer (map view_decl world.now) offer.entry) (hcase_rows (map view_hcase_row rows.now))) result }
 {
     let _ = world;
-    match rows {
-        [] => Err(wrong_action(alloc, at, x, offer.channel)),
-        [_, ..] => Ok(()),
+    match rows.first() {
+        Some(_) => Ok(()),
+        None => Err(wrong_action(alloc, at, x, offer.channel)),
     }
 }

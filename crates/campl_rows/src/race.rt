@@ -21,6 +21,7 @@ use std::alloc::Global;
 ///
 /// `RaceForm` (E48) at the command for another number of rows; at a row's channel `NotHeld` (E40), and `RaceForm` where the
 /// body begins otherwise or a row before names the channel. `OutOfMemory` where memory wants.
+#[tactic(auto, using(crate::proofs::Listed::counted))]
 pub fn race_stands(
     alloc: Global,
     world: &World,
@@ -67,6 +68,7 @@ fn branches_begin(
 }
 
 /// Whether a row begins so. Its channel is one that a row names from now on.
+#[tactic(auto, using(crate::proofs::Listed::branch))]
 fn branch_begins(
     alloc: Global,
     world: &World,
@@ -75,7 +77,7 @@ fn branch_begins(
     before: &mut NameSet,
 ) -> Result<(), LinFault>
     ensures judged { Answers (λ _. fine) (branch_begins (map view_decl world.now) (view_held held.now) before.old (view_branch row.now)) result }
-    ensures before { OnOk result (before.new ≡ with_name (view_branch row.now).0.name before.old) }
+    ensures added { OnOk result (before.new ≡ with_name (view_branch row.now).0.name before.old) }
 {
     let channel = match find_held(alloc, &row.channel, held) {
         Ok(channel) => channel,
@@ -94,9 +96,12 @@ fn begins(
     before: &mut NameSet,
 ) -> Result<(), LinFault>
     ensures judged { Answers (λ _. fine) (definition.begins (map view_decl world.now) x.now (view_body body.now) before.old (view_channel channel.now)) result }
-    ensures before { OnOk result (before.new ≡ with_name x.now.name before.old) }
+    ensures added { OnOk result (before.new ≡ with_name x.now.name before.old) }
 {
-    if before.has(&x.name) || !begins_with(world, channel, &x.name, body) {
+    if before.has(&x.name) {
+        return Err(LinFault::RaceForm(x.place));
+    }
+    if !begins_with(world, channel, &x.name, body) {
         return Err(LinFault::RaceForm(x.place));
     }
     match before.add(alloc, &x.name) {

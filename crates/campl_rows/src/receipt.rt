@@ -67,9 +67,9 @@ impl<'a> Receipt<'a> {
         ensures { result ≡ is_at act x.now (view_receipt self.entry) }
     {
         match self {
-            Receipt::Value(y) => act == Act::Get && *x == *y,
-            Receipt::Channels(y) => act == Act::Split && *x == *y,
-            Receipt::Constructor(y) => act == Act::Offer && *x == *y,
+            Receipt::Value(y) => matches!(act, Act::Get) && *x == *y,
+            Receipt::Channels(y) => matches!(act, Act::Split) && *x == *y,
+            Receipt::Constructor(y) => matches!(act, Act::Offer) && *x == *y,
             Receipt::Nothing => false,
         }
     }
