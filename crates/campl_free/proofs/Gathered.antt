@@ -1,6 +1,6 @@
 -- What parts of a walk add, taken together.
 use Rattle.std.proofs.Common.{◌≡◌, ◌∙◌, refl, sym, ap, subst, ◌⊎◌, inl, inr, Bool, true, false, not, ◌&&◌, ◌||◌, List, [], ◌∷◌, ◌++◌, append_assoc, append-nil, if◌then◌else◌, length, take, ℕ, ◌+◌, ◌<◌, drop, get_or, map}
-use Rattle.std.proofs.lemmas.List.{take_at, drop_more, drop_all}
+use Rattle.std.proofs.lemmas.List.{take_at, drop_more}
 use Rattle.campl_tree.specs.declared.place.Ident.{Ident}
 use Rattle.campl_tree.specs.declared.process.Action as code
 use Rattle.campl_tree.specs.Plain.Process.{Action, Body}
@@ -8,12 +8,11 @@ use Rattle.campl_tree.specs.View.{view_action}
 use Rattle.campl_types.specs.Names.{Name, same_name, is_among}
 use Rattle.campl_types.specs.World.{names_of}
 use Rattle.campl_types.specs.Free.{channel_of, channels_bound, is_free}
-use Rattle.campl_types.proofs.Names.{same-itself, split-names, among-append}
+use Rattle.campl_types.proofs.Names.{same-itself, split-names}
 use Rattle.campl_names.specs.NameSet.{with_name}
 use Rattle.campl_names.specs.Scope.{with_names}
 use Rattle.campl_names.proofs.Declared.{among-behind}
-use Rattle.campl_names.proofs.Scopes.{kept-under}
-use Rattle.campl_free.specs.Gathers.{Test, Gathers, GathersBehind, nothing, is_name, is_one_of, either_of, under, free_in, inside, behind}
+use Rattle.campl_free.specs.Gathers.{Test, Gathers, nothing, is_name, is_one_of, either_of, under, free_in, inside, behind}
 
 -- Sets
 

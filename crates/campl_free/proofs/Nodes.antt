@@ -1,7 +1,6 @@
 -- What is free in each command and each row.
-use Rattle.std.proofs.Common.{◌≡◌, ◌∙◌, refl, sym, ap, subst, take, Bool, true, false, not, ◌&&◌, ◌||◌, List, [], ◌∷◌, Option, Some, None, Result, Ok, Err, OnOk, ℕ, ◌+◌, ◌<◌, ◌≤◌, length, drop, get_or, map}
+use Rattle.std.proofs.Common.{◌≡◌, ◌∙◌, refl, sym, ap, subst, take, Bool, true, false, not, ◌&&◌, ◌||◌, List, [], ◌∷◌, Option, Some, None, Result, Ok, Err, OnOk, ℕ, ◌+◌, ◌<◌, length, drop, get_or, map}
 use Rattle.std.proofs.Math.Path.{fun_ext}
-use Rattle.std.proofs.lemmas.List.{drop_all}
 use Rattle.campl_tree.specs.declared.place.Place.{Place}
 use Rattle.campl_tree.specs.declared.place.Ident.{Ident}
 use Rattle.campl_tree.specs.declared.name.Name as n
@@ -54,7 +53,7 @@ module _ (at : Place) where
   free-Fork x r s =
       free-of _ _ (view_last-Fork at x r s)
       ∙ fun_ext (λ n. ap (λ c. same_name n x.name || (c || (not (same_name n (view_branch s).0.name) && is_free n (view_branch s).1))) (not-one (same_name n (view_branch r).0.name) (is_free n (view_branch r).1))
-        ∙ ap (λ c. same_name n x.name || ((not (same_name n (view_branch r).0.name || false) && is_free n (view_branch r).1) || c)) (not-one (same_name n (view_branch s).0.name) (is_free n (view_branch s).1)))
+      ∙ ap (λ c. same_name n x.name || ((not (same_name n (view_branch r).0.name || false) && is_free n (view_branch r).1) || c)) (not-one (same_name n (view_branch s).0.name) (is_free n (view_branch s).1)))
 
   pub free-Plug : (links : List Link) (all : List Part) → free_in (view_last (last.Plug at links all)) ≡ under (link_names (map view_link links)) (free_in_parts (parts (map view_part all)))
   unfolding under free_in_parts

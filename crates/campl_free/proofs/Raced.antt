@@ -1,5 +1,5 @@
 -- Whether a `race` stands in each command and each row.
-use Rattle.std.proofs.Common.{◌≡◌, ◌∙◌, refl, sym, ap, List, [], ◌∷◌, map}
+use Rattle.std.proofs.Common.{◌≡◌, ◌∙◌, refl, ap, List, [], ◌∷◌, map}
 use Rattle.std.proofs.lemmas.List.{drop_more, drop_all}
 use Rattle.campl_tree.specs.declared.process.Body.{Body}
 use Rattle.campl_tree.specs.declared.process.Body as code

@@ -1,6 +1,7 @@
-use Rattle.std.proofs.Common.{◌∙◌, ap}
+use Rattle.std.proofs.Common.{◌∙◌, ap, map}
 use Rattle.std.proofs.lemmas.List.{drop_all}
-use Rattle.campl_tree.specs.View.{view_last}
+use Rattle.campl_tree.specs.View.{view_action, view_link, view_last}
+use Rattle.campl_types.specs.Headers.{link_names}
 use Rattle.campl_free.specs.Gathers.{free_in}
 use Rattle.campl_free.proofs.Gathered.{gathers-both, gathers-under, turn}
 use Rattle.campl_free.proofs.Nodes.{free-Fork, free-Identity, free-Call, two-gathered, ok-then, plug-kept, row-at, case-at, branch-at, part-at, no-rows, no-cases, no-branches, no-parts, body-gathered, body-kept}
@@ -63,13 +64,13 @@ gather_parts-returns-clause-gathers t c =
     c.loop-part.invariant.told c.loop-part.found (rw (drop_all c.loop-part.part-index c.args.all.now c.loop-part-test.false) (no-parts c.args.bound.now c.loop-part.found))
 
 pub gather_body-returns-clause-kept : goal.gather_body-returns-clause-kept
-gather_body-returns-clause-kept t c = c.truncate.ensures ∙ body-kept c.args.bound.now _ _ _ _ c.in_ok-gather_actions.ensures.binds c.in_ok-gather_last.ensures.kept c.len-mark.ensures
+gather_body-returns-clause-kept t c = c.truncate.ensures ∙ body-kept c.args.bound.now _ _ (map view_action c.as_slice.result.now) _ c.in_ok-gather_actions.ensures.binds c.in_ok-gather_last.ensures.kept c.len-mark.ensures
 
 pub gather_last-returns-in_ok-gather_half-in-Fork-clause-gathers : goal.gather_last-returns-in_ok-gather_half-in-Fork-clause-gathers
 gather_last-returns-in_ok-gather_half-in-Fork-clause-gathers t c =
     ok-then c.gather_half-in-Fork.result (rw c.get-in-Fork.ensures at (rw c.in_ok-gather_half-in-Fork.ensures.kept at c.gather_half-in-Fork.ensures.gathers))
     (λ a. two-gathered c.args.last.now c.args.bound.now _ _ c.args.found.now _ _ (ap (λ l. free_in (view_last l)) c.in-Fork.is ∙ free-Fork c.in-Fork.field-0 c.in-Fork.x c.in-Fork.a c.in-Fork.b) c.in_ok-gather_name-in-Fork.ensures
-      (gathers-both _ _ _ _ _ _ (rw c.get.ensures at c.in_ok-gather_half-in-Fork.ensures.gathers) a))
+    (gathers-both _ _ _ _ _ _ (rw c.get.ensures at c.in_ok-gather_half-in-Fork.ensures.gathers) a))
 
 pub gather_last-returns-in_ok-gather_name-in-Identity-clause-gathers : goal.gather_last-returns-in_ok-gather_name-in-Identity-clause-gathers
 gather_last-returns-in_ok-gather_name-in-Identity-clause-gathers t c =
@@ -80,10 +81,10 @@ pub gather_last-returns-in_ok-gather_names-in-Call-clause-gathers : goal.gather_
 gather_last-returns-in_ok-gather_names-in-Call-clause-gathers t c =
     ok-then c.gather_names-in-Call.result (rw c.as_slice-in-Call-2.ensures at c.gather_names-in-Call.ensures)
     (λ a. two-gathered c.args.last.now c.args.bound.now _ _ c.args.found.now _ _ (ap (λ l. free_in (view_last l)) c.in-Call.is ∙ free-Call c.in-Call.field-0 c.in-Call.field-1 c.in-Call.field-2 c.in-Call.inputs c.in-Call.outputs)
-      (rw c.as_slice-in-Call.ensures at c.in_ok-gather_names-in-Call.ensures) a)
+    (rw c.as_slice-in-Call.ensures at c.in_ok-gather_names-in-Call.ensures) a)
 
 pub gather_plug-returns-clause-gathers : goal.gather_plug-returns-clause-gathers
 gather_plug-returns-clause-gathers t c = gathers-under _ _ _ _ _ (rw c.in_ok-bind_links.ensures at c.in_ok-gather_parts.ensures.gathers)
 
 pub gather_plug-returns-clause-kept : goal.gather_plug-returns-clause-kept
-gather_plug-returns-clause-kept t c = c.truncate.ensures ∙ plug-kept c.args.bound.now _ _ _ _ c.in_ok-bind_links.ensures c.in_ok-gather_parts.ensures.kept c.len-mark.ensures
+gather_plug-returns-clause-kept t c = c.truncate.ensures ∙ plug-kept c.args.bound.now _ _ (link_names (map view_link c.args.links.now)) _ c.in_ok-bind_links.ensures c.in_ok-gather_parts.ensures.kept c.len-mark.ensures
