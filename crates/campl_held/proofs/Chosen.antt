@@ -1,8 +1,13 @@
 -- In a well declared source a type's choices hold at a constructor what its own declaration says.
-use Rattle.std.proofs.Common.{◌≡◌, ◌∙◌, refl, sym, ap, Bool, true, false, if◌then◌else◌, List, [], Option, Some, None}
+use Rattle.std.proofs.Common.{◌≡◌, ◌∙◌, refl, sym, ap, Bool, true, false, if◌then◌else◌, List, [], ◌∷◌, Option, Some, None, map}
+use Rattle.campl_tree.specs.declared.decl.ProtocolDecl as protocol_decl
+use Rattle.campl_tree.specs.declared.decl.CoprotocolDecl as coprotocol_decl
+use Rattle.campl_tree.specs.declared.decl.ProtocolConstructor as protocol
+use Rattle.campl_tree.specs.declared.decl.CoprotocolConstructor as coprotocol
+use Rattle.campl_tree.specs.View.{view_protocol, view_protocol_constructor, view_coprotocol, view_coprotocol_constructor}
 use Rattle.campl_tree.specs.Plain.SeqType.{SeqType}
 use Rattle.campl_tree.specs.Plain.ChanType.{ChanType}
-use Rattle.campl_tree.specs.Plain.Decl.{Program, ProtocolDecl, CoprotocolDecl}
+use Rattle.campl_tree.specs.Plain.Decl.{Program, ProtocolDecl, CoprotocolDecl, ProtocolConstructor, CoprotocolConstructor}
 use Rattle.campl_types.specs.Names.{Name, same_name, found}
 use Rattle.campl_types.specs.Polarity.{line, after}
 use Rattle.campl_types.specs.Twice.{declared_from, twice_among}
@@ -12,7 +17,7 @@ use Rattle.campl_types.proofs.Names.{same-is}
 use Rattle.campl_types.proofs.DeclaredOnce.{owner-named, once-declared}
 use Rattle.campl_linear.specs.Remains.{remains_of, remains}
 use Rattle.campl_linear.proofs.Choices.{protocol-choices-declared, coprotocol-choices-declared}
-use Rattle.campl_held.specs.Chosen.{choices_of, belongs, ChoicesAreDeclared}
+use Rattle.campl_held.specs.Chosen.{choices_of, choice_names, belongs, ChoicesAreDeclared}
 
 module _ (w : World) (once : twice_among [] (declared_from 0 w) ≡ []) (x k : Name) (ts : List SeqType) where
   -- at a name of no protocol or coprotocol nothing remains
@@ -47,6 +52,7 @@ choices-remain source i x k ts = go (type_named (world_of source) x) refl
     go (Some (DataType d)) e = none-remains (world_of source) (once-declared source i) x k ts (Some (DataType d)) e (λ p j. cc j) (λ p j. cc j)
     go None e = none-remains (world_of source) (once-declared source i) x k ts None e (λ p j. cc j) (λ p j. cc j)
 
+-- in a well declared source each choice is as it is declared
 pub declared-choices : (source : Program) → IsWellDeclared source → ChoicesAreDeclared (world_of source)
 declared-choices source i = record { remain = choices-remain source i }
 
@@ -66,3 +72,30 @@ module _ (w : World) (so : ChoicesAreDeclared w) (x k : Name) (ts : List SeqType
   remains-nowhere b = ap (λ c. if c then after w k ts else None) b ∙ sym (remains-so x k (constructor_named w k) w ts refl) ∙ sym (so.remain x k ts)
 
 pub ruleset remaining = (remains-there, remains-nowhere)
+
+-- The names of lines
+
+protocol-names : (f : ProtocolConstructor → ChanType) (ks : List protocol.ProtocolConstructor)
+    → map (λ (k : protocol.ProtocolConstructor). k.name.name) ks ≡ choice_names (map (λ (k : ProtocolConstructor). (k.name.name, f k)) (map view_protocol_constructor ks))
+protocol-names f [] = refl
+protocol-names f (k ∷ ks) = ap (λ ns. k.name.name ∷ ns) (protocol-names f ks)
+
+coprotocol-names : (f : CoprotocolConstructor → ChanType) (ks : List coprotocol.CoprotocolConstructor)
+    → map (λ (k : coprotocol.CoprotocolConstructor). k.name.name) ks ≡ choice_names (map (λ (k : CoprotocolConstructor). (k.name.name, f k)) (map view_coprotocol_constructor ks))
+coprotocol-names f [] = refl
+coprotocol-names f (k ∷ ks) = ap (λ ns. k.name.name ∷ ns) (coprotocol-names f ks)
+
+module _ (ts : List SeqType) (t : Option TypeEntry) where
+  pub protocol-lines : (d : protocol_decl.ProtocolDecl) (ks : List protocol.ProtocolConstructor) → Some (ProtocolType (view_protocol d)) ≡ t → ks ≡ d.constructors
+      → map (λ (k : protocol.ProtocolConstructor). k.name.name) ks ≡ choice_names (choices_of t ts)
+  protocol-lines d ks i j =
+      protocol-names (λ k. line d.local d.name d.parameters ts k.channel_type) ks
+      ∙ ap (λ ls. choice_names (map (λ (k : ProtocolConstructor). (k.name.name, line d.local d.name d.parameters ts k.channel_type)) (map view_protocol_constructor ls))) j
+      ∙ ap (λ o. choice_names (choices_of o ts)) i
+
+  pub coprotocol-lines : (d : coprotocol_decl.CoprotocolDecl) (ks : List coprotocol.CoprotocolConstructor) → Some (CoprotocolType (view_coprotocol d)) ≡ t → ks ≡ d.constructors
+      → map (λ (k : coprotocol.CoprotocolConstructor). k.name.name) ks ≡ choice_names (choices_of t ts)
+  coprotocol-lines d ks i j =
+      coprotocol-names (λ k. line d.local d.name d.parameters ts k.channel_type) ks
+      ∙ ap (λ ls. choice_names (map (λ (k : CoprotocolConstructor). (k.name.name, line d.local d.name d.parameters ts k.channel_type)) (map view_coprotocol_constructor ls))) j
+      ∙ ap (λ o. choice_names (choices_of o ts)) i
