@@ -65,27 +65,27 @@ module _ (w : World) (vs : Vars) (held : Holding) (at : Place) where
       go (Is t) = in-two (from_seq (patterns_fit w rows t)) (from_seq (exhaustive at w (body_rows rows) (t ∷ []))) t (λ t. judge_cases w vs held t rows)
       go (Fails fault) = refl
 
-  pub fork-arm : (x y : Ident) (left : Body) (z : Ident) (right : Body)
-      → judge w vs held (b.Fork at x y left z right) ≡ and_then (fork_holding w at x y left z held) (λ p. and_then (judge w vs p.0 left) (λ _. judge w vs p.1 right))
-  fork-arm x y left z right = go (used w at x to_fork held)
-    where
-      abbrev Both : Type 0
-      Both = Holding × Holding
+  module _ (x y : Ident) (left : Body) (z : Ident) (right : Body) where
+    abbrev Both : Type 0
+    Both = Holding × Holding
 
-      abbrev shares : Used (ChanType × ChanType) → Both
-      shares u = (left_holding y.name (On u.side u.may.0) left (given_up x.name held), right_holding z.name (On u.side u.may.1) left (given_up x.name held))
+    abbrev shares : Used (ChanType × ChanType) → Both
+    shares u = (left_holding y.name (On u.side u.may.0) left (given_up x.name held), right_holding z.name (On u.side u.may.1) left (given_up x.name held))
 
-      abbrev bodies : Both → Judged LinFault Fine
-      bodies p = and_then (judge w vs p.0 left) (λ _. judge w vs p.1 right)
+    abbrev bodies : Both → Judged LinFault Fine
+    bodies p = and_then (judge w vs p.0 left) (λ _. judge w vs p.1 right)
 
-      inner : (u : Used (ChanType × ChanType)) (j : Judged LinFault Fine) → and_then j (λ _. bodies (shares u)) ≡ and_then (and_then j (λ _. Is (shares u))) bodies
-      inner u (Is f) = refl
-      inner u (Fails fault) = refl
+    new-ends : (u : Used (ChanType × ChanType)) (j : Judged LinFault Fine) → and_then j (λ _. bodies (shares u)) ≡ and_then (and_then j (λ _. Is (shares u))) bodies
+    new-ends u (Is f) = refl
+    new-ends u (Fails fault) = refl
 
-      go : (j : Judged LinFault (Used (ChanType × ChanType)))
-          → and_then j (λ u. and_then (two_new y z (given_up x.name held)) (λ _. bodies (shares u))) ≡ and_then (and_then j (λ u. and_then (two_new y z (given_up x.name held)) (λ _. Is (shares u)))) bodies
-      go (Is u) = inner u (two_new y z (given_up x.name held))
-      go (Fails fault) = refl
+    forked : (j : Judged LinFault (Used (ChanType × ChanType)))
+        → and_then j (λ u. and_then (two_new y z (given_up x.name held)) (λ _. bodies (shares u))) ≡ and_then (and_then j (λ u. and_then (two_new y z (given_up x.name held)) (λ _. Is (shares u)))) bodies
+    forked (Is u) = new-ends u (two_new y z (given_up x.name held))
+    forked (Fails fault) = refl
+
+    pub fork-arm : judge w vs held (b.Fork at x y left z right) ≡ and_then (fork_holding w at x y left z held) (λ p. and_then (judge w vs p.0 left) (λ _. judge w vs p.1 right))
+    fork-arm = forked (used w at x to_fork held)
 
 -- a row of `hcase` and those behind it
 pub row-arm : (w : World) (vs : Vars) (held : Holding) (x : Name) (u : Used Choices) (k : Ident) (body : Body) (rows : HcaseRows)

@@ -24,11 +24,12 @@ missing_so at (Some k) = Fails (CaseMissing at k)
 
 each-so : (at : Place) (cs : Choices) (names : List Name) → each_has_row at cs names ≡ missing_so at (first_missing (choice_names cs) names)
 each-so at [] names = refl
-each-so at (c ∷ cs) names = go (is_among c.0 names)
+each-so at (c ∷ cs) names = go (is_among c.0 names) (each-so at cs names)
   where
-    go : (b : Bool) → (if b then each_has_row at cs names else Fails (CaseMissing at c.0)) ≡ missing_so at (if b then first_missing (choice_names cs) names else Some c.0)
-    go true = each-so at cs names
-    go false = refl
+    go : (b : Bool) → each_has_row at cs names ≡ missing_so at (first_missing (choice_names cs) names)
+        → (if b then each_has_row at cs names else Fails (CaseMissing at c.0)) ≡ missing_so at (if b then first_missing (choice_names cs) names else Some c.0)
+    go true ih = ih
+    go false ih = refl
 
 module _ (at : Place) (cs : Choices) (lines names : List Name) (i : lines ≡ choice_names cs) where
   pub none-missing : None ≡ first_missing lines names → each_has_row at cs names ≡ Is fine

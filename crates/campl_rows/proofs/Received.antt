@@ -1,5 +1,5 @@
 -- The receipt with which a body begins.
-use Rattle.std.proofs.Common.{◌≡◌, ◌∙◌, refl, sym, ap, Bool, List, [], ◌∷◌, map}
+use Rattle.std.proofs.Common.{◌≡◌, ◌∙◌, refl, sym, ap, Bool, List, [], ◌∷◌, Some, None, map, slice_get}
 use Rattle.campl_tree.specs.declared.process.Body.{Body as CodeBody}
 use Rattle.campl_tree.specs.declared.process.Body as code
 use Rattle.campl_tree.specs.declared.process.Action as code_action
@@ -12,11 +12,22 @@ use Rattle.campl_types.specs.Polarity.{Deed, Puts, Gets, Forks, Splits, Picks, O
 use Rattle.campl_linear.specs.Rows.{begins_with}
 use Rattle.campl_rows.specs.Receipts.{receipt_of, action_receipt, is_at}
 
-pub receipt-alone : (q : CodeBody) → (code.out-Body q).actions ≡ [] → receipt_of (view_body q) ≡ receipt_of (view_last (code.out-Body q).last)
-receipt-alone q i = ap receipt_of (view_body-out q) ∙ ap (λ xs. receipt_of (actions_then (map view_action xs) (view_last (code.out-Body q).last))) i
+receipt-behind : (q : CodeBody) (actions : List code_action.Action) → (code.out-Body q).actions ≡ actions → receipt_of (view_body q) ≡ receipt_of (actions_then (map view_action actions) (view_last (code.out-Body q).last))
+receipt-behind q actions i = ap receipt_of (view_body-out q) ∙ ap (λ xs. receipt_of (actions_then (map view_action xs) (view_last (code.out-Body q).last))) i
 
-pub receipt-first : (q : CodeBody) (a : code_action.Action) (more : List code_action.Action) → (code.out-Body q).actions ≡ a ∷ more → receipt_of (view_body q) ≡ action_receipt (view_action a)
-receipt-first q a more i = ap receipt_of (view_body-out q) ∙ ap (λ xs. receipt_of (actions_then (map view_action xs) (view_last (code.out-Body q).last))) i
+none-first : {A : Type 0} (xs : List A) → None ≡ slice_get xs 0 → xs ≡ []
+none-first [] i = refl
+none-first (x ∷ xs) i = absurd (let none : ⊥ = cc in none)
+
+pub receipt-alone : (q : CodeBody) → None ≡ slice_get (code.out-Body q).actions 0 → receipt_of (view_body q) ≡ receipt_of (view_last (code.out-Body q).last)
+receipt-alone q i = receipt-behind q [] (none-first (code.out-Body q).actions i)
+
+first-receipt : (actions : List code_action.Action) (a : code_action.Action) (end : Body) → Some a ≡ slice_get actions 0 → receipt_of (actions_then (map view_action actions) end) ≡ action_receipt (view_action a)
+first-receipt [] a end i = absurd (let none : ⊥ = cc in none)
+first-receipt (x ∷ actions) a end i = let e : x ≡ a = cc in ap (λ y. action_receipt (view_action y)) e
+
+pub receipt-first : (q : CodeBody) (a : code_action.Action) → Some a ≡ slice_get (code.out-Body q).actions 0 → receipt_of (view_body q) ≡ action_receipt (view_action a)
+receipt-first q a i = receipt-behind q (code.out-Body q).actions refl ∙ first-receipt (code.out-Body q).actions a (view_last (code.out-Body q).last) i
 
 -- a body begins with the receipt at which a channel is, by the table's entry
 pub begins-so : (d : Deed) (x : Name) (body : Body) → begins_with d x body ≡ is_at (act_of d) x (receipt_of body)
@@ -64,8 +75,6 @@ begins-so (Offers cs) x (b.Race at rows) = refl
 begins-so (Offers cs) x (b.Case at a rows) = refl
 begins-so (Offers cs) x (b.Identity at p negated q) = refl
 begins-so (Offers cs) x (b.Call at p args inputs outputs) = refl
-
-pub ruleset bodies = (receipt-alone, receipt-first)
 
 pub ruleset lasts = (process_views)
 

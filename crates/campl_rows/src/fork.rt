@@ -1,5 +1,5 @@
 //! The rows of `fork`.
-ghost use Rattle.std.specs.Prelude.{◌≡◌, None, IfOk, map};
+ghost use Rattle.std.specs.Prelude.{◌≡◌, true, false, None, IfOk, map};
 ghost use Rattle.campl_tree.specs.View.{view_body, view_chan, view_decl};
 ghost use Rattle.campl_types.specs.Held.{On};
 ghost use Rattle.campl_types.specs.Names.{found};
@@ -50,56 +50,88 @@ pub fn fork_stands(
         Ok(()) => {}
         Err(fault) => return Err(fault),
     }
-    match divide(alloc, side, y, first, left, z, second, &held) {
+    let y = NewEnd {
+        name: y,
+        side,
+        channel_type: &first,
+    };
+    let z = NewEnd {
+        name: z,
+        side,
+        channel_type: &second,
+    };
+    match divide(alloc, left, y, z, &held) {
         Ok(shares) => Ok(shares),
         Err(_) => Err(LinFault::OutOfMemory),
     }
 }
 
-/// Divides the other channels, where both new names are new.
+/// An end that comes to a body, which holds it on the side with the type.
+#[derive(Clone, Copy)]
+struct NewEnd<'a> {
+    name: &'a Ident,
+    side: Side,
+    channel_type: &'a ChanType,
+}
+
+/// Divides what is held by the names that are free in the first body, where both ends are new.
 fn divide(
     alloc: Global,
-    side: Side,
-    y: &Ident,
-    first: ChanType,
     left: &Body,
-    z: &Ident,
-    second: ChanType,
+    y: NewEnd<'_>,
+    z: NewEnd<'_>,
     held: &Held,
 ) -> Result<(Held, Held), AllocError>
-    requires { (found y.now.name (view_held held.now) ≡ None) × (found z.now.name (view_held held.now) ≡ None) }
-    ensures left { IfOk result (λ p. view_held p.0 ≡ left_holding y.now.name (On side (view_chan first)) (view_body left.now) (view_held held.now)) }
-    ensures right { IfOk result (λ p. view_held p.1 ≡ right_holding z.now.name (On side (view_chan second)) (view_body left.now) (view_held held.now)) }
+    requires { (found y.name.now.name (view_held held.now) ≡ None) × (found z.name.now.name (view_held held.now) ≡ None) }
+    ensures left { IfOk result (λ p. view_held p.0 ≡ left_holding y.entry.name.now.name (On y.entry.side (view_chan y.entry.channel_type.now)) (view_body left.now) (view_held held.now)) }
+    ensures right { IfOk result (λ p. view_held p.1 ≡ right_holding z.entry.name.now.name (On z.entry.side (view_chan z.entry.channel_type.now)) (view_body left.now) (view_held held.now)) }
 {
-    let Ok(free) = free_names(alloc, left) else {
-        return Err(AllocError);
+    match free_names(alloc, left) {
+        Ok(free) => shares(alloc, &free, y, z, held),
+        Err(_) => Err(AllocError),
+    }
+}
+
+/// The channels of these names with the first end, and the others with the second.
+fn shares(
+    alloc: Global,
+    free: &NameSet,
+    y: NewEnd<'_>,
+    z: NewEnd<'_>,
+    held: &Held,
+) -> Result<(Held, Held), AllocError>
+    requires { (found y.name.now.name (view_held held.now) ≡ None) × (found z.name.now.name (view_held held.now) ≡ None) }
+    ensures left { IfOk result (λ p. view_held p.0 ≡ comes y.entry.name.now.name (On y.entry.side (view_chan y.entry.channel_type.now)) (those (is_kept true free.now) (view_held held.now))) }
+    ensures right { IfOk result (λ p. view_held p.1 ≡ comes z.entry.name.now.name (On z.entry.side (view_chan z.entry.channel_type.now)) (those (is_kept false free.now) (view_held held.now))) }
+{
+    let mine = match share(alloc, free, true, y, held) {
+        Ok(mine) => mine,
+        Err(_) => return Err(AllocError),
     };
-    let Ok(mine) = share(alloc, &free, true, y, side, first, held) else {
-        return Err(AllocError);
-    };
-    match share(alloc, &free, false, z, side, second, held) {
+    match share(alloc, free, false, z, held) {
         Ok(others) => Ok((mine, others)),
         Err(_) => Err(AllocError),
     }
 }
 
-/// The channels of these names, or the others, and a new one.
+/// The channels of these names, or the others, and a new end.
 fn share(
     alloc: Global,
     free: &NameSet,
     keep: bool,
-    y: &Ident,
-    side: Side,
-    channel_type: ChanType,
+    end: NewEnd<'_>,
     held: &Held,
 ) -> Result<Held, AllocError>
-    requires { found y.now.name (view_held held.now) ≡ None }
-    ensures { IfOk result (λ h. view_held h ≡ comes y.now.name (On side (view_chan channel_type)) (those (is_kept keep free.now) (view_held held.now))) }
+    requires { found end.name.now.name (view_held held.now) ≡ None }
+    ensures { IfOk result (λ h. view_held h ≡ comes end.entry.name.now.name (On end.entry.side (view_chan end.entry.channel_type.now)) (those (is_kept keep free.now) (view_held held.now))) }
 {
     let Ok(mut own) = held.those(alloc, free, keep) else {
         return Err(AllocError);
     };
-    match own.come(alloc, &y.name, side, channel_type) {
+    let Ok(channel_type) = end.channel_type.copy(alloc) else {
+        return Err(AllocError);
+    };
+    match own.come(alloc, &end.name.name, end.side, channel_type) {
         Ok(()) => Ok(own),
         Err(_) => Err(AllocError),
     }

@@ -21,13 +21,12 @@ pub(crate) enum Receipt<'a> {
 }
 
 /// The receipt with which a body begins.
-#[tactic(auto, using(crate::proofs::Received::bodies))]
 pub(crate) fn receipt_of(body: &Body) -> Receipt<'_>
     ensures { view_receipt result ≡ receipt_of (view_body body.now) }
 {
-    match body.actions.as_slice() {
-        [] => last_receipt(&body.last),
-        [action, ..] => action_receipt(action),
+    match body.actions.as_slice().first() {
+        Some(action) => action_receipt(action),
+        None => last_receipt(&body.last),
     }
 }
 
