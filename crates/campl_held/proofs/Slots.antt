@@ -1,6 +1,6 @@
 -- Slots and where the names stand in them.
-use Rattle.std.proofs.Common.{◌≡◌, ◌∙◌, refl, sym, ap, subst, ℕ, zero, suc, ◌+◌, ◌<◌, ◌≤◌, drop, Bool, true, false, not, cond, if◌then◌else◌, List, [], ◌∷◌, ◌++◌, map, length, take, get_or, Option, Some, None, option_map, slice_get, slice_set, arith}
-use Rattle.std.proofs.lemmas.List.{map-append, append-nil, drop_more, drop_all}
+use Rattle.std.proofs.Common.{◌≡◌, ◌∙◌, refl, sym, ap, subst, ℕ, zero, suc, ◌+◌, ◌<◌, ◌≤◌, drop, Bool, true, false, cond, if◌then◌else◌, List, [], ◌∷◌, ◌++◌, length, take, get_or, Option, Some, None, option_map, slice_get, slice_set, arith}
+use Rattle.std.proofs.lemmas.List.{map-append, drop_more, drop_all}
 use Rattle.std.specs.Map.{lookup}
 use Rattle.campl_types.specs.Names.{Name, same_name, found}
 use Rattle.campl_types.specs.Held.{Channel}

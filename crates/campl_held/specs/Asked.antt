@@ -42,23 +42,29 @@ abbrev pub view_pair : Option (Bor code_chan.ChanType × Bor code_chan.ChanType)
 view_pair None = None
 view_pair (Some p) = Some (view_chan p.0.now, view_chan p.1.now)
 
+-- nothing remains
 abbrev pub view_end : Option (Unit {0}) → Option Fine
 view_end None = None
 view_end (Some u) = Some fine
 
 -- A channel with what may be done there
 
+-- where a value is sent or received
 abbrev pub view_message : Message → Used (SeqType × ChanType)
 view_message m = record { side = m.channel.now.side; held_type = view_chan m.channel.now.channel_type; may = (view_seq m.value.now, view_chan m.rest.now) }
 
+-- where it is split, or a process forks
 abbrev pub view_halves : Halves → Used (ChanType × ChanType)
 view_halves m = record { side = m.channel.now.side; held_type = view_chan m.channel.now.channel_type; may = (view_chan m.first.now, view_chan m.second.now) }
 
+-- where a constructor is sent
 abbrev pub view_pick : Pick → Used ChanType
 view_pick p = record { side = p.channel.now.side; held_type = view_chan p.channel.now.channel_type; may = view_chan p.rest }
 
+-- where constructors are received
 abbrev pub view_offer : World → Offer → Used Choices
 view_offer w o = record { side = o.channel.now.side; held_type = view_chan o.channel.now.channel_type; may = view_choices w o.constructors }
 
+-- where it ends
 abbrev pub view_ending : Bor HeldChannel → Used Fine
 view_ending c = record { side = c.now.side; held_type = view_chan c.now.channel_type; may = fine }

@@ -20,6 +20,7 @@ choices_of (Some (CoprotocolType d)) ts = coprotocol_choices d ts
 choices_of (Some (DataType d)) ts = []
 choices_of None ts = []
 
+-- those of a type by its name in the world
 abbrev pub view_choices : World → Constructors → Choices
 view_choices w c = choices_of (type_named w c.name.now) (map view_seq c.arguments.now)
 
@@ -38,6 +39,7 @@ pub record ChoicesAreDeclared (w : World) : Type 0 where
 abbrev pub choice_names : Choices → List Name
 choice_names = map (λ (c : Name × ChanType). c.0)
 
+-- the names of lines
 abbrev pub view_lines : Lines → List Name
 view_lines (lines.Protocol ks) = map (λ (k : ProtocolConstructor). k.name.name) ks.now
 view_lines (lines.Coprotocol ks) = map (λ (k : CoprotocolConstructor). k.name.name) ks.now

@@ -7,12 +7,15 @@ use Rattle.campl_types.specs.Held.{Channel, On}
 use Rattle.campl_linear.specs.Holding.{Holding}
 use Rattle.campl_held.specs.declared.channel.HeldChannel.{HeldChannel}
 
+-- a held channel without its name
 abbrev pub view_channel : HeldChannel → Channel
 view_channel h = On h.side (view_chan h.channel_type)
 
+-- with its name
 abbrev pub view_one : HeldChannel → Name × Channel
 view_one h = (h.name, view_channel h)
 
+-- the list of held channels
 abbrev pub view_held : List HeldChannel → Holding
 view_held = map view_one
 
@@ -22,6 +25,7 @@ live [] = []
 live (None ∷ s) = live s
 live (Some h ∷ s) = h ∷ live s
 
+-- whether a slot has the channel of a name
 abbrev pub is_of : Name → Option HeldChannel → Bool
 is_of x None = false
 is_of x (Some h) = same_name x h.name
@@ -37,6 +41,7 @@ AreOnce [] = Unit {0}
 AreOnce (None ∷ s) = AreOnce s
 AreOnce (Some h ∷ s) = (place h.name s ≡ None) × AreOnce s
 
+-- what is in a slot that may not be there
 abbrev pub in_slot : Option (Option HeldChannel) → Option HeldChannel
 in_slot None = None
 in_slot (Some o) = o

@@ -17,21 +17,26 @@ use Rattle.campl_linear.specs.Judged.{from_seq}
 use Rattle.campl_linear.specs.Holding.{Holding, goes_on, given_up, comes}
 use Rattle.campl_linear.specs.Channels.{used, to_put, to_get, to_pick, to_split, to_end, two_new}
 
+-- `put`: the channel goes on
 abbrev pub acted_put : Place → World → Vars → Holding → Expr → Ident → Judged LinFault (Vars × Holding)
 acted_put at w vs held a x =
     and_then (used w at x to_put held) (λ u. and_then (from_seq (checked w vs a u.may.0)) (λ _. Is (vs, goes_on x.name (On u.side u.may.1) held)))
 
+-- `get`: what comes is bound
 abbrev pub acted_get : Place → World → Vars → Holding → Binder → Ident → Judged LinFault (Vars × Holding)
 acted_get at w vs held v x = and_then (used w at x to_get held) (λ u. Is (bound v u.may.0 vs, goes_on x.name (On u.side u.may.1) held))
 
+-- `hput`: the channel goes on behind the constructor
 abbrev pub acted_hput : Place → World → Vars → Holding → (k x : Ident) → Judged LinFault (Vars × Holding)
 acted_hput at w vs held k x = and_then (used w at x (to_pick k.name) held) (λ u. Is (vs, goes_on x.name (On u.side u.may) held))
 
+-- `split`: two new channels in place of one
 abbrev pub acted_split : Place → World → Vars → Holding → (x y z : Ident) → Judged LinFault (Vars × Holding)
 acted_split at w vs held x y z =
     and_then (used w at x to_split held) (λ u. and_then (two_new y z (given_up x.name held)) (λ _.
     Is (vs, comes z.name (On u.side u.may.1) (comes y.name (On u.side u.may.0) (given_up x.name held)))))
 
+-- `close`: the channel is given up
 abbrev pub acted_close : Place → World → Vars → Holding → Ident → Judged LinFault (Vars × Holding)
 acted_close at w vs held x = and_then (used w at x to_end held) (λ _. Is (vs, given_up x.name held))
 

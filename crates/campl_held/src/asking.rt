@@ -1,5 +1,5 @@
 //! What a command asks of the channel that it names: held, and at its own entry of the polarity table.
-ghost use Rattle.std.specs.Prelude.{◌≡◌, map};
+ghost use Rattle.std.specs.Prelude.{map};
 ghost use Rattle.campl_tree.specs.View.{view_chan, view_decl};
 ghost use Rattle.campl_linear.specs.Channels.{held_at, used, to_put, to_get, to_pick, to_end, to_split, to_fork, to_offer};
 ghost use Rattle.campl_linear.specs.Rows.{row_type};

@@ -1,5 +1,5 @@
 //! New channels, and none left.
-ghost use Rattle.std.specs.Prelude.{◌≡◌, if◌then◌else◌};
+ghost use Rattle.std.specs.Prelude.{if◌then◌else◌};
 ghost use Rattle.campl_types.specs.Names.{same_name};
 ghost use Rattle.campl_seqcheck.specs.Judged.{fine, Fails};
 ghost use Rattle.campl_linear.specs.Channels.{new_name, two_new, none_left};
