@@ -1,13 +1,13 @@
 -- What is held, divided by the names that are free in a body.
-use Rattle.std.proofs.Common.{◌≡◌, ◌∙◌, refl, sym, ap, Bool, true, false, not, if◌then◌else◌, List, [], ◌∷◌, Option, Some, None, Result, Ok, Err, IfOk}
+use Rattle.std.proofs.Common.{◌≡◌, ◌∙◌, refl, ap, Bool, true, false, not, if◌then◌else◌, List, [], ◌∷◌, Option, Some, None, Result, Ok, Err, IfOk}
 use Rattle.std.proofs.Math.Path.{fun_ext}
 use Rattle.campl_tree.specs.declared.place.Ident.{Ident}
 use Rattle.campl_tree.specs.Plain.Process.{Body}
 use Rattle.campl_types.specs.Names.{Name, same_name, is_among, found}
 use Rattle.campl_types.specs.Free.{is_free}
 use Rattle.campl_types.specs.Held.{Channel}
-use Rattle.campl_seqcheck.specs.Judged.{Fine, fine, Judged, Is, Fails, and_then}
-use Rattle.campl_linear.specs.Faults.{LinFault, LeftOver}
+use Rattle.campl_seqcheck.specs.Judged.{fine, Is, Fails, and_then}
+use Rattle.campl_linear.specs.Faults.{LeftOver}
 use Rattle.campl_linear.specs.Holding.{Holding, those, comes}
 use Rattle.campl_linear.specs.Channels.{is_new, two_new}
 use Rattle.campl_held.specs.declared.channel.HeldChannel.{HeldChannel}
