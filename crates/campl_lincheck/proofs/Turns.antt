@@ -46,7 +46,7 @@ use Rattle.campl_held.proofs.Turns.{drop-at}
 use Rattle.campl_lincheck.specs.StandIns.{halted, identified, headed}
 use Rattle.campl_lincheck.specs.Steps.{judged, judged_rows, judged_row, judged_hcase, judged_fork, judged_branches, judged_race, judged_case, judged_cases, judged_case_row, judged_plug, judged_parts, judged_part}
 
-F : Type 0
+abbrev F : Type 0
 F = plain.LinFault
 
 in-three : {A B C : Type 0} (j : Judged F A) (f : A → Judged F B) (g : B → Judged F C) → and_then j (λ x. and_then (f x) g) ≡ and_then (and_then j f) g
@@ -147,8 +147,10 @@ module _ (w : World) (vs : Vars) (held : Holding) (at : Place) where
   unfolding judged
   fork-so x left right = go (used w at x to_fork held)
     where
-      first second : Used (ChanType × ChanType) → Holding
+      first : Used (ChanType × ChanType) → Holding
       first u = comes left.0.name (On u.side u.may.0) (those (λ c. is_free c left.1) (given_up x.name held))
+
+      second : Used (ChanType × ChanType) → Holding
       second u = comes right.0.name (On u.side u.may.1) (those (λ c. not (is_free c left.1)) (given_up x.name held))
 
       bodies : Holding × Holding → Judged F Fine
@@ -202,7 +204,7 @@ module _ (w : World) (vs : Vars) (held : Holding) (at : Place) where
       go (Is t) = then-so t (patterns_fit w rs t) (exhaustive at w (body_rows rs) (t ∷ []))
       go (Fails fault) = refl
 
-  pub judged-Identity : (x : Name) (negated : Bool) (y : Ident) → judged w vs held (view_last (last.Identity at x negated y)) ≡ identified held at x negated y
+  pub judged-Identity : (x : Name) (negated : Bool) (y : Ident) → judged w vs held (view_last (last.Identity at x negated y)) ≡ identified at held x negated y
   unfolding judged
   judged-Identity x negated y = ap (judge w vs held) (view_last-Identity at x negated y)
 
@@ -276,7 +278,7 @@ module _ (w : World) (vs : Vars) (links : List b.Link) (held : Holding) (rows : 
 -- Processes
 
 module _ (w : World) (p : d.ProcessDecl) where
-  pub judged-process : judge_process w p ≡ and_then (headed w p) (λ (s : State). judged w s.0 s.1 p.row.body)
+  pub judged-process : judge_process w p ≡ and_then (headed p) (λ (s : State). judged w s.0 s.1 p.row.body)
   unfolding judged
   judged-process =
       go (names_differ [] (idents_of p.row)) (counted p.row.place (length p.row.variables) (length p.parameters))

@@ -6,7 +6,6 @@ use Rattle.campl_tree.specs.Plain.SeqType.{SeqType}
 use Rattle.campl_tree.specs.Plain.Decl.{ProcessDecl}
 use Rattle.campl_tree.specs.Plain.Expr.{Expr}
 use Rattle.campl_tree.specs.Plain.Process.{Body, HcaseRows, Branches, CaseRows, Parts, Link}
-use Rattle.campl_tree.specs.View.{view_chan}
 use Rattle.campl_types.specs.Names.{Name}
 use Rattle.campl_types.specs.World.{World}
 use Rattle.campl_types.specs.Polarity.{Choices}
@@ -22,22 +21,14 @@ use Rattle.campl_linear.specs.Faults.{LinFault}
 use Rattle.campl_linear.specs.Judged.{from_seq}
 use Rattle.campl_linear.specs.Holding.{Holding, goes_on, those, given_up, comes}
 use Rattle.campl_linear.specs.Channels.{held_at, Used, used, to_fork, to_end, to_offer, two_new, none_left, joined}
-use Rattle.campl_linear.specs.Rows as rows
-use Rattle.campl_linear.specs.Rows.{row_names, row_type, rows_offered, each_has_row, some_row, branch_names, branch_count, branches_begin}
+use Rattle.campl_linear.specs.Rows.{row_names, row_type, rows_offered, each_has_row, some_row, branch_names, branch_count, branches_begin, patterns_fit}
 use Rattle.campl_linear.specs.Calls.{as_many}
 use Rattle.campl_linear.specs.Processes as processes
 use Rattle.campl_linear.specs.Processes.{names_differ, idents_of}
 use Rattle.campl_linear.specs.Plugs.{links_are_new}
-use Rattle.campl_lincheck.specs.declared.stand_ins.Offer.{Offer}
-
-pub record ChoicesAreDeclared (w : World) : Type 0 where
-  pub declared : w ≡ w
 
 pub record LinksStand (links : List Link) (held : Holding) : Type 0 where
   pub new : links_are_new held [] links ≡ Is fine
-
-abbrev pub view_offer : World → Offer → Used Choices
-view_offer w o = record { side = o.channel.now.side; held_type = view_chan o.channel.now.channel_type; may = [] }
 
 -- `halt`
 abbrev pub halted : Place → World → Holding → Option Ident → Judged LinFault Fine
@@ -67,18 +58,18 @@ race_stands w at rows held = and_then (branch_count at (length (branch_names row
 -- `case` before its bodies
 abbrev pub case_stands : World → Vars → Place → Expr → CaseRows → Judged LinFault SeqType
 case_stands w vs at a rows =
-    and_then (from_seq (values.judge w vs a None)) (λ t. and_then (from_seq (rows.patterns_fit w rows t)) (λ _.
+    and_then (from_seq (values.judge w vs a None)) (λ t. and_then (from_seq (patterns_fit w rows t)) (λ _.
     and_then (from_seq (exhaustive at w (body_rows rows) (t ∷ []))) (λ _. Is t)))
 
 -- identity
-abbrev pub identified : Holding → Place → Name → Bool → Ident → Judged LinFault Fine
-identified held at x negated y =
+abbrev pub identified : Place → Holding → Name → Bool → Ident → Judged LinFault Fine
+identified at held x negated y =
     and_then (held_at (record { place = at; name = x }) held) (λ c. and_then (held_at y held) (λ d.
     and_then (none_left at (given_up y.name (given_up x held))) (λ _. joined at x negated y.name c d)))
 
 -- a process before its body
-abbrev pub headed : World → ProcessDecl → Judged LinFault (Vars × Holding)
-headed w p =
+abbrev pub headed : ProcessDecl → Judged LinFault (Vars × Holding)
+headed p =
     and_then (names_differ [] (idents_of p.row)) (λ _.
     and_then (from_seq (counted p.row.place (length p.row.variables) (length p.parameters))) (λ _.
     and_then (as_many p.row.place (length p.row.inputs) (length p.inputs)) (λ _.

@@ -9,7 +9,7 @@ ghost use Rattle.campl_vars.specs.Variables.{view_vars};
 ghost use Rattle.campl_seqcheck.specs.Judged.{fine};
 ghost use Rattle.campl_held.specs.Answered.{Answers};
 ghost use Rattle.campl_held.specs.Slots.{view_held};
-ghost use Rattle.campl_lincheck.specs.StandIns.{ChoicesAreDeclared};
+ghost use Rattle.campl_held.specs.Chosen.{ChoicesAreDeclared};
 ghost use Rattle.campl_lincheck.specs.Steps.{judged, judged_fork};
 
 use crate::stand_ins::{call, fork_stands, halt, identity};
@@ -74,7 +74,7 @@ fn judge_last(
         }
         Last::Race(at, rows) => judge_race(alloc, world, vars, &held, rows.as_slice(), *at),
         Last::Case(at, e, rows) => judge_case(alloc, world, vars, &held, rows.as_slice(), *at, e),
-        Last::Identity(at, x, negated, y) => identity(alloc, world, held, *at, x, *negated, y),
+        Last::Identity(at, x, negated, y) => identity(alloc, held, *at, x, *negated, y),
         Last::Call(at, x, args, inputs, outputs) => {
             let args = args.as_slice();
             let inputs = inputs.as_slice();

@@ -4,7 +4,7 @@ ghost use Rattle.campl_tree.specs.View.{view_decl, view_process, view_program};
 ghost use Rattle.campl_seqcheck.specs.Judged.{fine};
 ghost use Rattle.campl_linear.specs.Processes as definition;
 ghost use Rattle.campl_held.specs.Answered.{Answers};
-ghost use Rattle.campl_lincheck.specs.StandIns.{ChoicesAreDeclared};
+ghost use Rattle.campl_held.specs.Chosen.{ChoicesAreDeclared};
 
 use crate::judging::judge;
 use crate::stand_ins::heading;
@@ -67,7 +67,7 @@ fn check_process(alloc: Global, world: &World, p: &ProcessDecl) -> Result<(), Li
     requires { ChoicesAreDeclared (map view_decl world.now) }
     ensures { Answers (λ _. fine) (definition.judge_process (map view_decl world.now) (view_process p.now)) result }
 {
-    let (mut vars, held) = match heading(alloc, world, p) {
+    let (mut vars, held) = match heading(alloc, p) {
         Ok(first) => first,
         Err(fault) => return Err(fault),
     };

@@ -11,9 +11,11 @@ ghost use Rattle.campl_linear.specs.Plugs as plugs;
 ghost use Rattle.campl_held.specs.Answered.{Answers};
 ghost use Rattle.campl_held.specs.Slots.{view_held};
 ghost use Rattle.campl_lincheck.specs.StandIns as words;
-ghost use Rattle.campl_lincheck.specs.StandIns.{ChoicesAreDeclared, LinksStand, view_offer};
+ghost use Rattle.campl_held.specs.Asked.{view_offer};
+ghost use Rattle.campl_held.specs.Chosen.{ChoicesAreDeclared};
+ghost use Rattle.campl_lincheck.specs.StandIns.{LinksStand};
 
-use campl_held::{Held, HeldChannel, LinFault};
+use campl_held::{Held, LinFault, Offer};
 use campl_names::World;
 use campl_tree::{
     Body, Branch, CaseRow, Expr, HcaseRow, Ident, Link, Name, Part, Pattern, Place, ProcessDecl,
@@ -22,19 +24,14 @@ use campl_tree::{
 use campl_vars::Vars;
 use std::alloc::{AllocError, Global};
 
-#[derive(Clone, Copy)]
-pub struct Offer<'a> {
-    pub channel: &'a HeldChannel,
-}
-
 pub fn halt(alloc: Global, world: &World, held: Held, at: Place, channel: &Option<Ident>) -> Result<(), LinFault>
     ensures { Answers (λ _. fine) (words.halted at (map view_decl world.now) (view_held held) channel.now) result }
 {
     Err(LinFault::OutOfMemory)
 }
 
-pub fn identity(alloc: Global, world: &World, held: Held, at: Place, x: &Name, negated: bool, y: &Ident) -> Result<(), LinFault>
-    ensures { Answers (λ _. fine) (words.identified (view_held held) at x.now negated y.now) result }
+pub fn identity(alloc: Global, held: Held, at: Place, x: &Name, negated: bool, y: &Ident) -> Result<(), LinFault>
+    ensures { Answers (λ _. fine) (words.identified at (view_held held) x.now negated y.now) result }
 {
     Err(LinFault::OutOfMemory)
 }
@@ -51,13 +48,13 @@ pub fn call(
     outputs: &[Ident],
 ) -> Result<(), LinFault>
     ensures judged { Answers (λ _. fine) (called (map view_decl world.now) (view_vars vars.old) (view_held held) at (process_named (map view_decl world.now) x.now) (exprs (map view_expr args.now)) inputs.now outputs.now) result }
-    ensures kept { OnOk result (vars.new ≡ vars.old) }
+    ensures kept { vars.new ≡ vars.old }
 {
     Err(LinFault::OutOfMemory)
 }
 
-pub fn heading(alloc: Global, world: &World, p: &ProcessDecl) -> Result<(Vars, Held), LinFault>
-    ensures { Answers (λ s. (view_vars s.0, view_held s.1)) (words.headed (map view_decl world.now) (view_process p.now)) result }
+pub fn heading(alloc: Global, p: &ProcessDecl) -> Result<(Vars, Held), LinFault>
+    ensures { Answers (λ s. (view_vars s.0, view_held s.1)) (words.headed (view_process p.now)) result }
 {
     Err(LinFault::OutOfMemory)
 }
@@ -71,7 +68,7 @@ pub fn offers_stand<'a>(alloc: Global, world: &World, at: Place, x: &Ident, rows
 
 pub fn row_held(alloc: Global, world: &World, x: &Ident, offer: Offer<'_>, k: &Ident, held: &Held) -> Result<Held, LinFault>
     requires { ChoicesAreDeclared (map view_decl world.now) }
-    ensures { Answers (λ h. view_held h) (words.row_holding x.now.name (view_offer (map view_decl world.now) offer) k.now (view_held held.now)) result }
+    ensures { Answers (λ h. view_held h) (words.row_holding x.now.name (view_offer (map view_decl world.now) offer.entry) k.now (view_held held.now)) result }
 {
     Err(LinFault::OutOfMemory)
 }

@@ -5,7 +5,8 @@ ghost use Rattle.campl_vars.specs.Variables.{view_vars};
 ghost use Rattle.campl_seqcheck.specs.Judged.{fine};
 ghost use Rattle.campl_held.specs.Answered.{Answers};
 ghost use Rattle.campl_held.specs.Slots.{view_held};
-ghost use Rattle.campl_lincheck.specs.StandIns.{ChoicesAreDeclared, LinksStand};
+ghost use Rattle.campl_held.specs.Chosen.{ChoicesAreDeclared};
+ghost use Rattle.campl_lincheck.specs.StandIns.{LinksStand};
 ghost use Rattle.campl_lincheck.specs.Steps.{judged_plug, judged_parts, judged_part};
 
 use crate::judging::judge;

@@ -5,12 +5,13 @@ ghost use Rattle.campl_vars.specs.Variables.{view_vars};
 ghost use Rattle.campl_seqcheck.specs.Judged.{fine};
 ghost use Rattle.campl_held.specs.Answered.{Answers};
 ghost use Rattle.campl_held.specs.Slots.{view_held};
-ghost use Rattle.campl_lincheck.specs.StandIns.{ChoicesAreDeclared, view_offer};
+ghost use Rattle.campl_held.specs.Asked.{view_offer};
+ghost use Rattle.campl_held.specs.Chosen.{ChoicesAreDeclared};
 ghost use Rattle.campl_lincheck.specs.Steps.{judged, judged_hcase, judged_rows, judged_row, judged_race, judged_branches, judged_case, judged_cases, judged_case_row};
 
 use crate::judging::judge;
-use crate::stand_ins::{Offer, case_stands, offers_stand, race_stands, row_held, row_variables};
-use campl_held::{Held, LinFault};
+use crate::stand_ins::{case_stands, offers_stand, race_stands, row_held, row_variables};
+use campl_held::{Held, LinFault, Offer};
 use campl_names::World;
 use campl_tree::{Body, Branch, CaseRow, Expr, HcaseRow, Ident, Place, SeqType};
 use campl_vars::Vars;
@@ -50,7 +51,7 @@ fn judge_rows(
     offer: Offer<'_>,
 ) -> Result<(), LinFault>
     requires { ChoicesAreDeclared (map view_decl world.now) }
-    ensures judged { Answers (λ _. fine) (judged_rows (map view_decl world.now) (view_vars vars.old) (view_held held.now) x.now.name (view_offer (map view_decl world.now) offer) (hcase_rows (map view_hcase_row rows.now))) result }
+    ensures judged { Answers (λ _. fine) (judged_rows (map view_decl world.now) (view_vars vars.old) (view_held held.now) x.now.name (view_offer (map view_decl world.now) offer.entry) (hcase_rows (map view_hcase_row rows.now))) result }
     ensures kept { OnOk result (vars.new ≡ vars.old) }
 {
     for i in 0..rows.len() {
@@ -74,7 +75,7 @@ fn judge_row(
     offer: Offer<'_>,
 ) -> Result<(), LinFault>
     requires { ChoicesAreDeclared (map view_decl world.now) }
-    ensures judged { Answers (λ _. fine) (judged_row (map view_decl world.now) (view_vars vars.old) (view_held held.now) x.now.name (view_offer (map view_decl world.now) offer) (view_hcase_row row.now)) result }
+    ensures judged { Answers (λ _. fine) (judged_row (map view_decl world.now) (view_vars vars.old) (view_held held.now) x.now.name (view_offer (map view_decl world.now) offer.entry) (view_hcase_row row.now)) result }
     ensures kept { OnOk result (vars.new ≡ vars.old) }
 {
     let own = match row_held(alloc, world, x, offer, &row.constructor, held) {

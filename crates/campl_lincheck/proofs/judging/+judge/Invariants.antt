@@ -2,7 +2,7 @@ use Rattle.std.proofs.Common.{◌≡◌, ◌+◌, ◌*◌, map, drop}
 use Rattle.campl_tree.specs.View.{view_seq, view_body, view_last, view_hcase_row, hcase_rows, view_branch, branches, view_case_row, case_rows, view_link, view_part, parts as part_list, view_decl}
 use Rattle.campl_vars.specs.Variables.{view_vars}
 use Rattle.campl_held.specs.Slots.{view_held}
-use Rattle.campl_lincheck.specs.StandIns.{view_offer}
+use Rattle.campl_held.specs.Asked.{view_offer}
 use Rattle.campl_lincheck.specs.Steps.{judged_rows, judged_branches, judged_cases, judged_parts}
 use Rattle.campl_lincheck.proofs.Weights.{weight, weights}
 use Rattle.campl_lincheck.proofs.judging.+judge.Given as goal
