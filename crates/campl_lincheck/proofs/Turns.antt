@@ -1,5 +1,5 @@
 -- What judging makes of each command, and what is judged from where a loop stands.
-use Rattle.std.proofs.Common.{◌≡◌, ◌∙◌, refl, sym, ap, ℕ, ◌+◌, ◌<◌, ◌≤◌, Bool, not, Option, Some, None, List, [], ◌∷◌, ◌++◌, map, drop, length, get_or}
+use Rattle.std.proofs.Common.{◌≡◌, ◌∙◌, refl, ap, ℕ, ◌+◌, ◌<◌, ◌≤◌, Bool, Option, Some, None, List, [], ◌∷◌, ◌++◌, map, drop, length, get_or}
 use Rattle.std.proofs.Math.Path.{fun_ext}
 use Rattle.std.proofs.lemmas.List.{drop_all}
 use Rattle.campl_tree.specs.declared.place.Place.{Place}
@@ -20,30 +20,30 @@ use Rattle.campl_tree.specs.Plain.Process as b
 use Rattle.campl_tree.specs.View.{view_action, view_last, view_body, view_hcase_row, hcase_rows, view_branch, branches, view_case_row, case_rows, view_link, view_part, parts as part_list, actions_then, view_expr, exprs}
 use Rattle.campl_tree.proofs.Views.{view_last-Halt, view_last-Hcase, view_last-Fork, view_last-Plug, view_last-Race, view_last-Case, view_last-Identity, view_last-Call, view_body-out}
 use Rattle.campl_types.specs.Fits.{Vars}
-use Rattle.campl_types.specs.Free.{is_free}
 use Rattle.campl_types.specs.Held.{On}
-use Rattle.campl_types.specs.Linear.{bound, body_rows, row_variables}
+use Rattle.campl_types.specs.Linear.{bound}
 use Rattle.campl_types.specs.Polarity.{Choices}
 use Rattle.campl_types.specs.World.{World, process_named}
-use Rattle.campl_seqcheck.specs.Judged as seq
 use Rattle.campl_seqcheck.specs.Judged.{fine, Fine, Judged, Is, Fails, and_then}
-use Rattle.campl_seqcheck.specs.Fitting.{fit, counted}
+use Rattle.campl_seqcheck.specs.Fitting.{fit}
 use Rattle.campl_seqcheck.specs.Judging as values
 use Rattle.campl_seqcheck.specs.Judging.{checked}
-use Rattle.campl_seqcheck.specs.RowPatterns.{exhaustive}
 use Rattle.campl_seqcheck.specs.declared.fault.SeqFault.{SeqFault}
 use Rattle.campl_linear.specs.Faults as plain
 use Rattle.campl_linear.specs.Judged.{from_seq}
-use Rattle.campl_linear.specs.Holding.{Holding, goes_on, those, given_up, comes}
-use Rattle.campl_linear.specs.Channels.{Used, used, to_put, to_get, to_pick, to_split, to_fork, to_end, to_offer, two_new}
-use Rattle.campl_linear.specs.Rows.{row_names, row_type, rows_offered, each_has_row, some_row, branch_names, branch_count, branches_begin, patterns_fit}
-use Rattle.campl_linear.specs.Calls.{called, as_many}
-use Rattle.campl_linear.specs.Plugs.{share_of}
-use Rattle.campl_linear.specs.Processes.{names_differ, idents_of, row_holding, judge_process}
+use Rattle.campl_linear.specs.Holding.{Holding, goes_on, given_up, comes}
+use Rattle.campl_linear.specs.Channels.{Used, used, to_put, to_get, to_pick, to_split, to_end, two_new}
+use Rattle.campl_linear.specs.Calls.{called}
+use Rattle.campl_linear.specs.Processes.{judge_process}
 use Rattle.campl_linear.specs.Bodies.{judge, judge_rows, judge_branches, judge_cases, judge_parts}
 use Rattle.campl_held.specs.Steps.{acted, acted_all}
 use Rattle.campl_held.proofs.Turns.{drop-at}
-use Rattle.campl_lincheck.specs.StandIns.{halted, identified, headed}
+use Rattle.campl_calls.specs.Halting.{halted}
+use Rattle.campl_calls.specs.Identities.{identified}
+use Rattle.campl_calls.specs.Headings.{headed}
+use Rattle.campl_calls.proofs.Headed.{judged-headed}
+use Rattle.campl_rows.specs.Steps.{row_holding}
+use Rattle.campl_rows.proofs.Arms.{hcase-arm, fork-arm, race-arm, case-arm, row-arm}
 use Rattle.campl_lincheck.specs.Steps.{judged, judged_rows, judged_row, judged_hcase, judged_fork, judged_branches, judged_race, judged_case, judged_cases, judged_case_row, judged_plug, judged_parts, judged_part}
 
 abbrev F : Type 0
@@ -114,60 +114,14 @@ module _ (w : World) (vs : Vars) (held : Holding) (at : Place) where
   unfolding judged
   judged-Halt x = ap (judge w vs held) (view_last-Halt at x) ∙ halt-so x
 
-  hcase-so : (x : Ident) (rows : b.HcaseRows) → judged w vs held (b.Hcase at x rows) ≡ judged_hcase at w vs held x rows
-  unfolding judged judged_rows
-  hcase-so x rows = go (used w at x to_offer held)
-    where
-      next : Used Choices → Judged F Fine
-      next u = judge_rows w vs held x.name u rows
-
-      last-so : (u : Used Choices) (r : Judged F Fine) → and_then r (λ _. next u) ≡ and_then (and_then r (λ _. Is u)) next
-      last-so u (Is f) = refl
-      last-so u (Fails fault) = refl
-
-      then-so : (u : Used Choices) (q r : Judged F Fine) → and_then q (λ _. and_then r (λ _. next u)) ≡ and_then (and_then q (λ _. and_then r (λ _. Is u))) next
-      then-so u (Is f) r = last-so u r
-      then-so u (Fails fault) r = refl
-
-      rows-so : (u : Used Choices) (p q r : Judged F Fine)
-          → and_then p (λ _. and_then q (λ _. and_then r (λ _. next u))) ≡ and_then (and_then p (λ _. and_then q (λ _. and_then r (λ _. Is u)))) next
-      rows-so u (Is f) q r = then-so u q r
-      rows-so u (Fails fault) q r = refl
-
-      go : (k : Judged F (Used Choices))
-          → and_then k (λ u. and_then (rows_offered x.name u [] rows) (λ _. and_then (each_has_row at u.may (row_names rows)) (λ _. and_then (some_row at x.name u rows) (λ _. next u))))
-          ≡ and_then (and_then k (λ u. and_then (rows_offered x.name u [] rows) (λ _. and_then (each_has_row at u.may (row_names rows)) (λ _. and_then (some_row at x.name u rows) (λ _. Is u))))) next
-      go (Is u) = rows-so u (rows_offered x.name u [] rows) (each_has_row at u.may (row_names rows)) (some_row at x.name u rows)
-      go (Fails fault) = refl
-
   pub judged-Hcase : (x : Ident) (rows : List HcaseRow) → judged w vs held (view_last (last.Hcase at x rows)) ≡ judged_hcase at w vs held x (hcase_rows (map view_hcase_row rows))
-  judged-Hcase x rows = ap (judged w vs held) (view_last-Hcase at x rows) ∙ hcase-so x (hcase_rows (map view_hcase_row rows))
-
-  fork-so : (x : Ident) (left right : Ident × b.Body) → judged w vs held (b.Fork at x left.0 left.1 right.0 right.1) ≡ judged_fork at w vs held x left right
-  unfolding judged
-  fork-so x left right = go (used w at x to_fork held)
-    where
-      first : Used (ChanType × ChanType) → Holding
-      first u = comes left.0.name (On u.side u.may.0) (those (λ c. is_free c left.1) (given_up x.name held))
-
-      second : Used (ChanType × ChanType) → Holding
-      second u = comes right.0.name (On u.side u.may.1) (those (λ c. not (is_free c left.1)) (given_up x.name held))
-
-      bodies : Holding × Holding → Judged F Fine
-      bodies h = and_then (judge w vs h.0 left.1) (λ _. judge w vs h.1 right.1)
-
-      inner : (u : Used (ChanType × ChanType)) (j : Judged F Fine) → and_then j (λ _. bodies (first u, second u)) ≡ and_then (and_then j (λ _. Is (first u, second u))) bodies
-      inner u (Is f) = refl
-      inner u (Fails fault) = refl
-
-      go : (k : Judged F (Used (ChanType × ChanType)))
-          → and_then k (λ u. and_then (two_new left.0 right.0 (given_up x.name held)) (λ _. bodies (first u, second u)))
-          ≡ and_then (and_then k (λ u. and_then (two_new left.0 right.0 (given_up x.name held)) (λ _. Is (first u, second u)))) bodies
-      go (Is u) = inner u (two_new left.0 right.0 (given_up x.name held))
-      go (Fails fault) = refl
+  unfolding judged judged_rows
+  judged-Hcase x rows = ap (judge w vs held) (view_last-Hcase at x rows) ∙ hcase-arm w vs held at x (hcase_rows (map view_hcase_row rows))
 
   pub judged-Fork : (x : Ident) (left right : Branch) → judged w vs held (view_last (last.Fork at x left right)) ≡ judged_fork at w vs held x (view_branch left) (view_branch right)
-  judged-Fork x left right = ap (judged w vs held) (view_last-Fork at x left right) ∙ fork-so x (view_branch left) (view_branch right)
+  unfolding judged
+  judged-Fork x left right =
+      ap (judge w vs held) (view_last-Fork at x left right) ∙ fork-arm w vs held at x (view_branch left).0 (view_branch left).1 (view_branch right).0 (view_branch right).1
 
   pub judged-Plug : (links : List Link) (rows : List Part) → judged w vs held (view_last (last.Plug at links rows)) ≡ judged_plug at w vs held (map view_link links) (part_list (map view_part rows))
   unfolding judged judged_parts
@@ -175,34 +129,11 @@ module _ (w : World) (vs : Vars) (held : Holding) (at : Place) where
 
   pub judged-Race : (rows : List Branch) → judged w vs held (view_last (last.Race at rows)) ≡ judged_race at w vs held (branches (map view_branch rows))
   unfolding judged judged_branches
-  judged-Race rows =
-      let bs : b.Branches = branches (map view_branch rows) in
-      ap (judge w vs held) (view_last-Race at rows) ∙ in-three (branch_count at (length (branch_names bs))) (λ _. branches_begin w held [] bs) (λ _. judge_branches w vs held bs)
+  judged-Race rows = ap (judge w vs held) (view_last-Race at rows) ∙ race-arm w vs held at (branches (map view_branch rows))
 
   pub judged-Case : (a : Expr) (rows : List CaseRow) → judged w vs held (view_last (last.Case at a rows)) ≡ judged_case at w vs held (view_expr a) (case_rows (map view_case_row rows))
   unfolding judged judged_cases
-  judged-Case a rows = ap (judge w vs held) (view_last-Case at a rows) ∙ go (values.judge w vs (view_expr a) None)
-    where
-      rs : b.CaseRows
-      rs = case_rows (map view_case_row rows)
-
-      next : SeqType → Judged F Fine
-      next t = judge_cases w vs held t rs
-
-      last-so : (t : SeqType) (q : Judged SeqFault Fine) → and_then (from_seq q) (λ _. next t) ≡ and_then (and_then (from_seq q) (λ _. Is t)) next
-      last-so t (Is f) = refl
-      last-so t (Fails fault) = refl
-
-      then-so : (t : SeqType) (p q : Judged SeqFault Fine)
-          → and_then (from_seq p) (λ _. and_then (from_seq q) (λ _. next t)) ≡ and_then (and_then (from_seq p) (λ _. and_then (from_seq q) (λ _. Is t))) next
-      then-so t (Is f) q = last-so t q
-      then-so t (Fails fault) q = refl
-
-      go : (j : Judged SeqFault SeqType)
-          → and_then (from_seq j) (λ t. and_then (from_seq (patterns_fit w rs t)) (λ _. and_then (from_seq (exhaustive at w (body_rows rs) (t ∷ []))) (λ _. next t)))
-          ≡ and_then (and_then (from_seq j) (λ t. and_then (from_seq (patterns_fit w rs t)) (λ _. and_then (from_seq (exhaustive at w (body_rows rs) (t ∷ []))) (λ _. Is t)))) next
-      go (Is t) = then-so t (patterns_fit w rs t) (exhaustive at w (body_rows rs) (t ∷ []))
-      go (Fails fault) = refl
+  judged-Case a rows = ap (judge w vs held) (view_last-Case at a rows) ∙ case-arm w vs held at (view_expr a) (case_rows (map view_case_row rows))
 
   pub judged-Identity : (x : Name) (negated : Bool) (y : Ident) → judged w vs held (view_last (last.Identity at x negated y)) ≡ identified at held x negated y
   unfolding judged
@@ -222,19 +153,10 @@ module _ (w : World) (vs : Vars) (held : Holding) (x : Name) (u : Used Choices) 
       → judged_rows w vs held x u (hcase_rows (map view_hcase_row (drop i rows)))
       ≡ and_then (judged_row w vs held x u (view_hcase_row r)) (λ _. judged_rows w vs held x u (hcase_rows (map view_hcase_row (drop (i + 1) rows))))
   unfolding judged judged_rows
-  row-at r l is = ap (λ rs. judge_rows w vs held x u (hcase_rows (map view_hcase_row rs))) (drop-at rows i r l is) ∙ go (row_type (view_hcase_row r).0 x u)
-    where
-      rest : Fine → Judged F Fine
-      rest _ = judge_rows w vs held x u (hcase_rows (map view_hcase_row (drop (i + 1) rows)))
-
-      holding : ChanType → Holding
-      holding y = goes_on x (On u.side y) held
-
-      go : (j : Judged F ChanType)
-          → and_then j (λ y. and_then (judge w vs (holding y) (view_hcase_row r).1) rest)
-          ≡ and_then (and_then (and_then j (λ y. Is (holding y))) (λ h. judge w vs h (view_hcase_row r).1)) rest
-      go (Is y) = refl
-      go (Fails fault) = refl
+  row-at r l is =
+      ap (λ rs. judge_rows w vs held x u (hcase_rows (map view_hcase_row rs))) (drop-at rows i r l is)
+      ∙ row-arm w vs held x u (view_hcase_row r).0 (view_hcase_row r).1 (hcase_rows (map view_hcase_row (drop (i + 1) rows)))
+      ∙ in-three (row_holding x u (view_hcase_row r).0 held) (λ h. judge w vs h (view_hcase_row r).1) (λ _. judge_rows w vs held x u (hcase_rows (map view_hcase_row (drop (i + 1) rows))))
 
   pub row-end : length rows ≤ i → judged_rows w vs held x u (hcase_rows (map view_hcase_row (drop i rows))) ≡ Is fine
   unfolding judged_rows
@@ -277,24 +199,6 @@ module _ (w : World) (vs : Vars) (links : List b.Link) (held : Holding) (rows : 
 
 -- Processes
 
-module _ (w : World) (p : d.ProcessDecl) where
-  pub judged-process : judge_process w p ≡ and_then (headed p) (λ (s : State). judged w s.0 s.1 p.row.body)
-  unfolding judged
-  judged-process =
-      go (names_differ [] (idents_of p.row)) (counted p.row.place (length p.row.variables) (length p.parameters))
-          (as_many p.row.place (length p.row.inputs) (length p.inputs)) (as_many p.row.place (length p.row.outputs) (length p.outputs))
-    where
-      first : State
-      first = (row_variables p.row.variables p.parameters, row_holding p)
-
-      next : State → Judged F Fine
-      next s = judge w s.0 s.1 p.row.body
-
-      go : (i : Judged F Fine) (j : Judged SeqFault Fine) (k l : Judged F Fine)
-          → and_then i (λ _. and_then (from_seq j) (λ _. and_then k (λ _. and_then l (λ _. next first))))
-          ≡ and_then (and_then i (λ _. and_then (from_seq j) (λ _. and_then k (λ _. and_then l (λ _. Is first))))) next
-      go (Is a) (Is c) (Is e) (Is f) = refl
-      go (Is a) (Is c) (Is e) (Fails fault) = refl
-      go (Is a) (Is c) (Fails fault) l = refl
-      go (Is a) (Fails fault) k l = refl
-      go (Fails fault) j k l = refl
+pub judged-process : (w : World) (p : d.ProcessDecl) → judge_process w p ≡ and_then (headed p) (λ (s : State). judged w s.0 s.1 p.row.body)
+unfolding judged
+judged-process w p = judged-headed w p

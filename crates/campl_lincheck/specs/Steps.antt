@@ -19,7 +19,7 @@ use Rattle.campl_linear.specs.Holding.{Holding}
 use Rattle.campl_linear.specs.Channels.{Used}
 use Rattle.campl_linear.specs.Plugs.{plug_stands, share_of}
 use Rattle.campl_linear.specs.Bodies.{judge, judge_rows, judge_branches, judge_cases, judge_parts}
-use Rattle.campl_lincheck.specs.StandIns.{offers_stand, row_holding, fork_holding, race_stands, case_stands}
+use Rattle.campl_rows.specs.Steps.{offers_stand, row_holding, fork_holding, race_stands, case_stands}
 
 unfoldable pub judged : World → Vars → Holding → Body → Judged LinFault Fine
 judged = judge

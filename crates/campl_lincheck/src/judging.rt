@@ -12,9 +12,10 @@ ghost use Rattle.campl_held.specs.Slots.{view_held};
 ghost use Rattle.campl_held.specs.Chosen.{ChoicesAreDeclared};
 ghost use Rattle.campl_lincheck.specs.Steps.{judged, judged_fork};
 
-use crate::stand_ins::{call, fork_stands, halt, identity};
+use campl_calls::{call, halt, identity};
 use campl_held::{Held, LinFault, act_all};
 use campl_names::World;
+use campl_rows::fork_stands;
 use campl_tree::{Body, Branch, Ident, Last, Place};
 use campl_vars::Vars;
 use parts::judge_plug;

@@ -10,7 +10,6 @@
 
 mod judging;
 mod processes;
-mod stand_ins;
 
 pub use campl_held::LinFault;
 pub use processes::{check, check_processes};

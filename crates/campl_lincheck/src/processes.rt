@@ -7,7 +7,7 @@ ghost use Rattle.campl_held.specs.Answered.{Answers};
 ghost use Rattle.campl_held.specs.Chosen.{ChoicesAreDeclared};
 
 use crate::judging::judge;
-use crate::stand_ins::heading;
+use campl_calls::heading;
 use campl_held::LinFault;
 use campl_names::World;
 use campl_tree::{Decl, ProcessDecl, Program};

@@ -6,13 +6,13 @@ ghost use Rattle.campl_seqcheck.specs.Judged.{fine};
 ghost use Rattle.campl_held.specs.Answered.{Answers};
 ghost use Rattle.campl_held.specs.Slots.{view_held};
 ghost use Rattle.campl_held.specs.Chosen.{ChoicesAreDeclared};
-ghost use Rattle.campl_lincheck.specs.StandIns.{LinksStand};
+ghost use Rattle.campl_plug_heads.specs.Heads.{LinksStand};
 ghost use Rattle.campl_lincheck.specs.Steps.{judged_plug, judged_parts, judged_part};
 
 use crate::judging::judge;
-use crate::stand_ins::{plug_stands, share_of};
 use campl_held::{Held, LinFault};
 use campl_names::World;
+use campl_plug_heads::{plug_stands, share_of};
 use campl_tree::{Link, Part, Place};
 use campl_vars::Vars;
 use std::alloc::Global;

@@ -10,10 +10,10 @@ ghost use Rattle.campl_held.specs.Chosen.{ChoicesAreDeclared};
 ghost use Rattle.campl_lincheck.specs.Steps.{judged, judged_hcase, judged_rows, judged_row, judged_race, judged_branches, judged_case, judged_cases, judged_case_row};
 
 use crate::judging::judge;
-use crate::stand_ins::{case_stands, offers_stand, race_stands, row_held, row_variables};
 use campl_held::{Held, LinFault, Offer};
 use campl_names::World;
-use campl_tree::{Body, Branch, CaseRow, Expr, HcaseRow, Ident, Place, SeqType};
+use campl_rows::{case_stands, offers_stand, race_stands, row_held, row_variables};
+use campl_tree::{Body, Branch, CaseRow, Expr, HcaseRow, Ident, Name, Place, SeqType};
 use campl_vars::Vars;
 use std::alloc::Global;
 
@@ -36,7 +36,7 @@ pub(super) fn judge_hcase(
         Ok(offer) => offer,
         Err(fault) => return Err(fault),
     };
-    judge_rows(alloc, world, vars, held, rows, x, offer)
+    judge_rows(alloc, world, vars, held, rows, &x.name, offer)
 }
 
 /// Judges the bodies of the rows of `hcase`.
@@ -47,11 +47,11 @@ fn judge_rows(
     vars: &mut Vars,
     held: &Held,
     rows: &[HcaseRow],
-    x: &Ident,
+    x: &Name,
     offer: Offer<'_>,
 ) -> Result<(), LinFault>
     requires { ChoicesAreDeclared (map view_decl world.now) }
-    ensures judged { Answers (λ _. fine) (judged_rows (map view_decl world.now) (view_vars vars.old) (view_held held.now) x.now.name (view_offer (map view_decl world.now) offer.entry) (hcase_rows (map view_hcase_row rows.now))) result }
+    ensures judged { Answers (λ _. fine) (judged_rows (map view_decl world.now) (view_vars vars.old) (view_held held.now) x.now (view_offer (map view_decl world.now) offer.entry) (hcase_rows (map view_hcase_row rows.now))) result }
     ensures kept { OnOk result (vars.new ≡ vars.old) }
 {
     for i in 0..rows.len() {
@@ -71,11 +71,11 @@ fn judge_row(
     vars: &mut Vars,
     held: &Held,
     row: &HcaseRow,
-    x: &Ident,
+    x: &Name,
     offer: Offer<'_>,
 ) -> Result<(), LinFault>
     requires { ChoicesAreDeclared (map view_decl world.now) }
-    ensures judged { Answers (λ _. fine) (judged_row (map view_decl world.now) (view_vars vars.old) (view_held held.now) x.now.name (view_offer (map view_decl world.now) offer.entry) (view_hcase_row row.now)) result }
+    ensures judged { Answers (λ _. fine) (judged_row (map view_decl world.now) (view_vars vars.old) (view_held held.now) x.now (view_offer (map view_decl world.now) offer.entry) (view_hcase_row row.now)) result }
     ensures kept { OnOk result (vars.new ≡ vars.old) }
 {
     let own = match row_held(alloc, world, x, offer, &row.constructor, held) {

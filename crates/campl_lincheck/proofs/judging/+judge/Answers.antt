@@ -119,7 +119,7 @@ rows::judge_cases-returns-clause-judged t c =
 
 pub parts::judge_parts-judge_part-requires : goal.parts::judge_parts-judge_part-requires
 parts::judge_parts-judge_part-requires t c =
-    (let h = within view_part c.args.parts.now c.loop-i.i c.index-parts-i.result c.loop-i-test.true c.index-parts-i.is in omega (arith, h, c.decreases), c.requires.declared, c.requires.links)
+    (let h = within view_part c.args.parts.now c.loop-i.i c.index-parts-i.result c.loop-i-test.true c.index-parts-i.is in omega (arith, h, c.decreases), (c.requires.declared, c.requires.links))
 
 pub parts::judge_parts-loop-i-preserved : goal.parts::judge_parts-loop-i-preserved
 parts::judge_parts-loop-i-preserved t c =

@@ -58,8 +58,8 @@ decreases-parts::judge_part l = 8 * weight (view_part l.part.now).1 + 5
 abbrev pub invariant-rows::judge_rows-loop-i : goal.invariant-rows::judge_rows-loop-i
 invariant-rows::judge_rows-loop-i l =
     record {
-      told : judged_rows (map view_decl l.world) (view_vars l.initial.vars) (view_held l.held) l.x.name (view_offer (map view_decl l.world) l.offer) (hcase_rows (map view_hcase_row (drop l.i l.rows)))
-          ≡ judged_rows (map view_decl l.world) (view_vars l.initial.vars) (view_held l.held) l.x.name (view_offer (map view_decl l.world) l.offer) (hcase_rows (map view_hcase_row l.rows));
+      told : judged_rows (map view_decl l.world) (view_vars l.initial.vars) (view_held l.held) l.x (view_offer (map view_decl l.world) l.offer) (hcase_rows (map view_hcase_row (drop l.i l.rows)))
+          ≡ judged_rows (map view_decl l.world) (view_vars l.initial.vars) (view_held l.held) l.x (view_offer (map view_decl l.world) l.offer) (hcase_rows (map view_hcase_row l.rows));
       kept : l.vars ≡ l.initial.vars;
     }
 
