@@ -79,7 +79,17 @@ fn judge_last(
         Last::Call(at, x, args, inputs, outputs) => {
             let args = args.as_slice();
             let inputs = inputs.as_slice();
-            call(alloc, world, vars, held, *at, x, args, inputs, outputs.as_slice())
+            call(
+                alloc,
+                world,
+                vars,
+                held,
+                *at,
+                x,
+                args,
+                inputs,
+                outputs.as_slice(),
+            )
         }
     }
 }
@@ -101,7 +111,16 @@ fn judge_fork(
     ensures kept { OnOk result (vars.new ≡ vars.old) }
 {
     let y = &left.channel;
-    let (first, second) = match fork_stands(alloc, world, at, x, y, &left.body, &right.channel, held) {
+    let (first, second) = match fork_stands(
+        alloc,
+        world,
+        at,
+        x,
+        y,
+        &left.body,
+        &right.channel,
+        held,
+    ) {
         Ok(halves) => halves,
         Err(fault) => return Err(fault),
     };

@@ -11,5 +11,6 @@
 mod judging;
 mod processes;
 
+pub use campl_free::has_race;
 pub use campl_held::LinFault;
 pub use processes::{check, check_processes};

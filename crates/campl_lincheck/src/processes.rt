@@ -31,11 +31,7 @@ pub fn check(alloc: Global, world: &World, program: &Program) -> Result<(), LinF
 /// # Errors
 ///
 /// The fault (E30 to E34, E40 to E51), or `OutOfMemory` where memory wants.
-pub fn check_processes(
-    alloc: Global,
-    world: &World,
-    declarations: &[Decl],
-) -> Result<(), LinFault>
+pub fn check_processes(alloc: Global, world: &World, declarations: &[Decl]) -> Result<(), LinFault>
     requires { ChoicesAreDeclared (map view_decl world.now) }
     ensures { Answers (λ _. fine) (definition.judge_processes (map view_decl world.now) (map view_decl declarations.now)) result }
 {

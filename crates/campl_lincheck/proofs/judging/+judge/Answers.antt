@@ -168,11 +168,11 @@ parts::judge_part-returns-in-Ok-clause-judged t c =
 pub judge_last-returns-in-Hcase-clause-judged : goal.judge_last-returns-in-Hcase-clause-judged
 judge_last-returns-in-Hcase-clause-judged t c =
     follows (λ _. fine) _ _ c.judge_hcase.result
-        (ap (λ l. judged (map view_decl c.args.world.now) (view_vars c.args.vars.now) (view_held c.args.held) (view_last l)) c.in-Hcase.is ∙ judged-Hcase (map view_decl c.args.world.now) (view_vars c.args.vars.now) (view_held c.args.held) c.in-Hcase.at c.in-Hcase.x c.in-Hcase.rows)
-        (rw c.as_slice.ensures at c.judge_hcase.ensures.judged)
+    (ap (λ l. judged (map view_decl c.args.world.now) (view_vars c.args.vars.now) (view_held c.args.held) (view_last l)) c.in-Hcase.is ∙ judged-Hcase (map view_decl c.args.world.now) (view_vars c.args.vars.now) (view_held c.args.held) c.in-Hcase.at c.in-Hcase.x c.in-Hcase.rows)
+    (rw c.as_slice.ensures at c.judge_hcase.ensures.judged)
 
 pub judge_last-returns-in-Case-clause-judged : goal.judge_last-returns-in-Case-clause-judged
 judge_last-returns-in-Case-clause-judged t c =
     follows (λ _. fine) _ _ c.judge_case.result
-        (ap (λ l. judged (map view_decl c.args.world.now) (view_vars c.args.vars.now) (view_held c.args.held) (view_last l)) c.in-Case.is ∙ judged-Case (map view_decl c.args.world.now) (view_vars c.args.vars.now) (view_held c.args.held) c.in-Case.at c.in-Case.e c.in-Case.rows)
-        (rw c.as_slice-in-Case.ensures at c.judge_case.ensures.judged)
+    (ap (λ l. judged (map view_decl c.args.world.now) (view_vars c.args.vars.now) (view_held c.args.held) (view_last l)) c.in-Case.is ∙ judged-Case (map view_decl c.args.world.now) (view_vars c.args.vars.now) (view_held c.args.held) c.in-Case.at c.in-Case.e c.in-Case.rows)
+    (rw c.as_slice-in-Case.ensures at c.judge_case.ensures.judged)
