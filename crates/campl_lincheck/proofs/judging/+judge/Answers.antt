@@ -1,5 +1,5 @@
 -- What the search leaves open.
-use Rattle.std.proofs.Common.{◌∙◌, refl, sym, ap, inl, map, arith}
+use Rattle.std.proofs.Common.{◌∙◌, sym, ap, map, arith}
 use Rattle.campl_tree.specs.View.{view_hcase_row, view_branch, view_case_row, view_part, view_last, view_decl}
 use Rattle.campl_tree.proofs.Views.{view_hcase_row-out, view_branch-out, view_case_row-out, view_part-out}
 use Rattle.campl_vars.specs.Variables.{view_vars}
@@ -10,7 +10,7 @@ use Rattle.campl_held.proofs.Turns.{loop-went, loop-stopped}
 use Rattle.campl_lincheck.specs.Steps.{judged}
 use Rattle.campl_lincheck.proofs.Turns.{judged-body, judged-Hcase, judged-Case, row-at, row-end, branch-at, branch-end, case-at, case-end, part-at, part-end}
 use Rattle.campl_lincheck.proofs.Weights.{weight, within}
-use Rattle.campl_lincheck.proofs.Falls.{weight-body, weight-Hcase, weight-Fork, weight-Plug, weight-Race, weight-Case, rows-fall, bodies-fall}
+use Rattle.campl_lincheck.proofs.Falls.{weight-body, weight-Hcase, weight-Plug, weight-Race, weight-Case, rows-fall, bodies-fall}
 use Rattle.campl_lincheck.proofs.judging.+judge.Goals as goal
 
 pub judge-judge_last-requires : goal.judge-judge_last-requires
