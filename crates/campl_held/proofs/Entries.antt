@@ -1,59 +1,18 @@
--- What a command asks of a channel.
-use Rattle.std.proofs.Common.{◌≡◌, ◌∙◌, refl, sym, ap, subst, ◌⊎◌, inl, inr, Bool, true, false, if◌then◌else◌, ◌++◌, Option, Some, None, List, [], ◌∷◌, map, slice_get}
+-- What a command asks of a channel, and new ones.
+use Rattle.std.proofs.Common.{◌≡◌, ◌∙◌, refl, sym, ap, Bool, true, false, if◌then◌else◌, ◌++◌, Option, Some, None, List, [], ◌∷◌, slice_get}
 use Rattle.campl_tree.specs.declared.place.Place.{Place}
 use Rattle.campl_tree.specs.declared.place.Ident.{Ident}
-use Rattle.campl_tree.specs.declared.service.Side.{Side}
-use Rattle.campl_tree.specs.declared.service.Side.TheVariants.{Input, Output}
-use Rattle.campl_tree.specs.Plain.SeqType.{SeqType}
-use Rattle.campl_tree.specs.Plain.ChanType.{ChanType}
 use Rattle.campl_tree.proofs.Views.{chan_views}
 use Rattle.campl_types.specs.Names.{Name, same_name, found}
 use Rattle.campl_types.proofs.Names.{same-turned}
-use Rattle.campl_types.specs.Held.{Channel, On}
-use Rattle.campl_types.specs.Polarity.{Deed, of_named, deed}
-use Rattle.campl_types.specs.World.{World, TypeEntry, DataType, ProtocolType, CoprotocolType}
-use Rattle.campl_seqcheck.specs.Judged as seq
+use Rattle.campl_types.specs.Held.{Channel}
+use Rattle.campl_seqcheck.specs.Judged.{Is, Fails, and_then, fine}
 use Rattle.campl_seqcheck.proofs.Nodes.{list_of-types}
-use Rattle.campl_linear.specs.Faults.{WrongAction, NotHeld, LeftOver}
-use Rattle.campl_seqcheck.specs.Judged.{Judged, Is, Fails, and_then}
-use Rattle.campl_linear.specs.Judged.{from_seq}
+use Rattle.campl_linear.specs.Faults.{NotHeld, LeftOver}
 use Rattle.campl_linear.specs.Holding.{Holding, comes}
-use Rattle.campl_linear.specs.Channels.{Used, used, held_at, is_held, allowed_of, allowed_so, to_put, to_get, to_end, to_split, none_left, new_name, is_new, two_new}
-use Rattle.campl_seqcheck.specs.Judged.{fine}
+use Rattle.campl_linear.specs.Channels.{held_at, is_held, none_left, new_name, is_new, two_new}
 use Rattle.campl_held.specs.declared.channel.HeldChannel.{HeldChannel}
 use Rattle.campl_held.specs.Slots.{view_held}
-
-pub none-put : (e : Option TypeEntry) (s : Side) (ts : List SeqType) → to_put (of_named e s ts) ≡ None
-none-put None s ts = refl
-none-put (Some (DataType d)) s ts = refl
-none-put (Some (ProtocolType d)) Input ts = refl
-none-put (Some (ProtocolType d)) Output ts = refl
-none-put (Some (CoprotocolType d)) Input ts = refl
-none-put (Some (CoprotocolType d)) Output ts = refl
-
-pub none-get : (e : Option TypeEntry) (s : Side) (ts : List SeqType) → to_get (of_named e s ts) ≡ None
-none-get None s ts = refl
-none-get (Some (DataType d)) s ts = refl
-none-get (Some (ProtocolType d)) Input ts = refl
-none-get (Some (ProtocolType d)) Output ts = refl
-none-get (Some (CoprotocolType d)) Input ts = refl
-none-get (Some (CoprotocolType d)) Output ts = refl
-
-pub none-end : (e : Option TypeEntry) (s : Side) (ts : List SeqType) → to_end (of_named e s ts) ≡ None
-none-end None s ts = refl
-none-end (Some (DataType d)) s ts = refl
-none-end (Some (ProtocolType d)) Input ts = refl
-none-end (Some (ProtocolType d)) Output ts = refl
-none-end (Some (CoprotocolType d)) Input ts = refl
-none-end (Some (CoprotocolType d)) Output ts = refl
-
-pub none-split : (e : Option TypeEntry) (s : Side) (ts : List SeqType) → to_split (of_named e s ts) ≡ None
-none-split None s ts = refl
-none-split (Some (DataType d)) s ts = refl
-none-split (Some (ProtocolType d)) Input ts = refl
-none-split (Some (ProtocolType d)) Output ts = refl
-none-split (Some (CoprotocolType d)) Input ts = refl
-none-split (Some (CoprotocolType d)) Output ts = refl
 
 -- new channels
 pub is-new : (y : Ident) (held : Holding) → None ≡ found y.name held → new_name y held ≡ Is fine
@@ -87,11 +46,6 @@ second-new y z c held i =
 
 pub ruleset coming = (is-new, not-new)
 
--- what is asked of a channel that is held
-pub asked : {A : Type 0} (w : World) (at : Place) (x : Ident) (wants : Deed → Option A) (held : Holding) (s : Side) (u : ChanType) (d : Deed) (o : Option A)
-    → held_at x held ≡ Is (On s u) → deed w s u ≡ d → o ≡ wants d → used w at x wants held ≡ allowed_so at x.name s u o
-asked w at x wants held s u d o i j k = ap (λ h. and_then h (allowed_of w at x.name wants)) i ∙ ap (λ e. allowed_so at x.name s u (wants e)) j ∙ ap (allowed_so at x.name s u) (sym k)
-
 -- not held, and not found
 pub not-held : (x : Ident) (held : Holding) → None ≡ found x.name held → held_at x held ≡ Fails (NotHeld x.place x.name)
 not-held x held i = ap (is_held x) (sym i)
@@ -113,5 +67,3 @@ pub ruleset leaving = (left-first, left-nothing)
 pub ruleset holding = (not-held, is-held)
 
 pub ruleset deeds = (chan_views, list_of-types)
-
-pub ruleset named = (none-put, none-get, none-end, none-split)

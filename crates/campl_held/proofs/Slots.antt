@@ -1,13 +1,13 @@
 -- Slots and where the names stand in them.
-use Rattle.std.proofs.Common.{◌≡◌, ◌∙◌, refl, sym, ap, subst, ℕ, zero, suc, ◌+◌, ◌<◌, ◌≤◌, drop, Bool, true, false, not, cond, if◌then◌else◌, List, [], ◌∷◌, ◌++◌, map, length, take, get_or, Option, Some, None, option_map, slice_get, slice_set, arith}
-use Rattle.std.proofs.lemmas.List.{map-append, append-nil, drop_more, drop_all}
+use Rattle.std.proofs.Common.{◌≡◌, ◌∙◌, refl, sym, ap, subst, ℕ, zero, suc, ◌+◌, ◌<◌, ◌≤◌, drop, Bool, true, false, cond, if◌then◌else◌, List, [], ◌∷◌, ◌++◌, length, take, get_or, Option, Some, None, option_map, slice_get, slice_set, arith}
+use Rattle.std.proofs.lemmas.List.{map-append, drop_more, drop_all}
 use Rattle.std.specs.Map.{lookup}
 use Rattle.campl_types.specs.Names.{Name, same_name, found}
 use Rattle.campl_types.specs.Held.{Channel}
 use Rattle.campl_types.proofs.Names.{same-is, same-turned}
-use Rattle.campl_linear.specs.Holding.{those, given_up, goes_on, comes}
+use Rattle.campl_linear.specs.Holding.{Holding, those, given_up, goes_on, comes}
 use Rattle.campl_held.specs.declared.channel.HeldChannel.{HeldChannel}
-use Rattle.campl_held.specs.Slots.{view_channel, view_one, view_held, live, is_of, place, AreOnce, slot_at}
+use Rattle.campl_held.specs.Slots.{view_channel, view_one, view_held, live, is_of, place, AreOnce, slot_at, is_kept}
 
 abbrev pub Slot : Type 0
 Slot = Option HeldChannel
@@ -77,11 +77,11 @@ emptied x (Some h ∷ s) n once i = go (same_name x h.name) (λ m j. emptied x s
     go true more j k =
         let e : 0 ≡ n = cc in
         subst (λ q. view_held (live (slice_set (Some h ∷ s) q None)) ≡ given_up x (view_held (live (Some h ∷ s)))) e
-            (rw j (sym (not-there x s (subst (λ y. place y s ≡ None) (sym (same-is x h.name j)) once.0))))
+        (rw j (sym (not-there x s (subst (λ y. place y s ≡ None) (sym (same-is x h.name j)) once.0))))
     go false more j k =
         let l = some-later (place x s) n k in
         subst (λ q. view_held (live (slice_set (Some h ∷ s) q None)) ≡ given_up x (view_held (live (Some h ∷ s)))) l.2
-            (rw j (ap (λ t. view_one h ∷ t) (more l.0 l.1)))
+        (rw j (ap (λ t. view_one h ∷ t) (more l.0 l.1)))
 
 cond-later : (b : Bool) (p : Option ℕ) → option_map suc (cond b None p) ≡ cond b None (option_map suc p)
 cond-later true p = refl
@@ -92,7 +92,7 @@ emptied-place x y [] n once i = absurd (let none : ⊥ = cc in none)
 emptied-place x y (None ∷ s) n once i =
     let l = some-later (place x s) n i in
     subst (λ q. place y (slice_set (None ∷ s) q None) ≡ cond (same_name x y) None (option_map suc (place y s))) l.2
-        (ap (option_map suc) (emptied-place x y s l.0 once l.1) ∙ cond-later (same_name x y) (place y s))
+    (ap (option_map suc) (emptied-place x y s l.0 once l.1) ∙ cond-later (same_name x y) (place y s))
 emptied-place x y (Some h ∷ s) n once i = go (same_name x h.name) (λ m j. emptied-place x y s m once.1 j) refl i
   where
     here : (c : Bool) → same_name x y ≡ c → same_name x h.name ≡ true → option_map suc (place y s) ≡ cond c None (cond (same_name y h.name) (Some 0) (option_map suc (place y s)))
@@ -112,7 +112,7 @@ emptied-place x y (Some h ∷ s) n once i = go (same_name x h.name) (λ m j. emp
     go false more j k =
         let l = some-later (place x s) n k in
         subst (λ q. place y (slice_set (Some h ∷ s) q None) ≡ cond (same_name x y) None (cond (same_name y h.name) (Some 0) (option_map suc (place y s)))) l.2
-            (later (same_name x y) (place y (slice_set s l.0 None)) refl j (more l.0 l.1))
+        (later (same_name x y) (place y (slice_set s l.0 None)) refl j (more l.0 l.1))
 
 no-place : (b : Bool) (p : Option ℕ) → p ≡ None → cond b None p ≡ None
 no-place true p i = refl
@@ -129,7 +129,7 @@ emptied-once x (Some h ∷ s) n once i = go (same_name x h.name) (λ m j. emptie
     go false more k =
         let l = some-later (place x s) n k in
         subst (λ q. AreOnce (slice_set (Some h ∷ s) q None)) l.2
-            (emptied-place x h.name s l.0 once.1 l.1 ∙ no-place (same_name x h.name) (place h.name s) once.0, more l.0 l.1)
+        (emptied-place x h.name s l.0 once.1 l.1 ∙ no-place (same_name x h.name) (place h.name s) once.0, more l.0 l.1)
 
 -- Going on
 
@@ -153,11 +153,11 @@ module _ (x : Name) (g : HeldChannel) (is : g.name ≡ x) where
       go true more j k =
           let e : 0 ≡ n = cc in
           subst (λ q. view_held (live (slice_set (Some h ∷ s) q (Some g))) ≡ goes_on x (view_channel g) (view_held (live (Some h ∷ s)))) e
-              (rw j (ap (λ y. (y, view_channel g) ∷ view_held (live s)) (is ∙ same-is x h.name j)))
+          (rw j (ap (λ y. (y, view_channel g) ∷ view_held (live s)) (is ∙ same-is x h.name j)))
       go false more j k =
           let l = some-later (place x s) n k in
           subst (λ q. view_held (live (slice_set (Some h ∷ s) q (Some g))) ≡ goes_on x (view_channel g) (view_held (live (Some h ∷ s)))) l.2
-              (rw j (ap (λ t. view_one h ∷ t) (more l.0 l.1)))
+          (rw j (ap (λ t. view_one h ∷ t) (more l.0 l.1)))
 
   pub refilled-place : (y : Name) (s : List Slot) (n : ℕ) → place x s ≡ Some n → place y (slice_set s n (Some g)) ≡ place y s
   refilled-place y [] n i = absurd (let none : ⊥ = cc in none)
@@ -171,11 +171,11 @@ module _ (x : Name) (g : HeldChannel) (is : g.name ≡ x) where
       go true more j k =
           let e : 0 ≡ n = cc in
           subst (λ q. place y (slice_set (Some h ∷ s) q (Some g)) ≡ place y (Some h ∷ s)) e
-              (ap (λ z. cond (same_name y z) (Some 0) (option_map suc (place y s))) (is ∙ same-is x h.name j))
+          (ap (λ z. cond (same_name y z) (Some 0) (option_map suc (place y s))) (is ∙ same-is x h.name j))
       go false more j k =
           let l = some-later (place x s) n k in
           subst (λ q. place y (slice_set (Some h ∷ s) q (Some g)) ≡ place y (Some h ∷ s)) l.2
-              (ap (λ p. cond (same_name y h.name) (Some 0) (option_map suc p)) (more l.0 l.1))
+          (ap (λ p. cond (same_name y h.name) (Some 0) (option_map suc p)) (more l.0 l.1))
 
   pub refilled-once : (s : List Slot) (n : ℕ) → AreOnce s → place x s ≡ Some n → AreOnce (slice_set s n (Some g))
   refilled-once [] n once i = absurd (let none : ⊥ = cc in none)
@@ -224,7 +224,7 @@ there x (o ∷ s) zero g l is k = ap (is_of x) is ∙ (none-later (is_of x o) (p
 there x (o ∷ s) (suc i) g l is k = there x s i g (omega (arith, l)) is (none-later (is_of x o) (place x s) k).1
 
 -- what stands before a channel hasn't its name
-pub apart : (s : List Slot) (i : ℕ) (g : HeldChannel) → AreOnce s → i < length s → Some g ≡ get_or s i (Some g) → found g.name (view_held (live (take i s))) ≡ None
+apart : (s : List Slot) (i : ℕ) (g : HeldChannel) → AreOnce s → i < length s → Some g ≡ get_or s i (Some g) → found g.name (view_held (live (take i s))) ≡ None
 apart [] i g once l is = absurd (let none : ⊥ = omega (arith, l) in none)
 apart (o ∷ s) zero g once l is = refl
 apart (None ∷ s) (suc i) g once l is = apart s i g once (omega (arith, l)) is
@@ -246,10 +246,40 @@ one-more s i o l is =
     let next : i + 1 ≡ suc i = omega arith in
     ap (λ n. live (take n s)) next ∙ ap live (take-more s i o l is) ∙ live-append (take i s) (o ∷ [])
 
-pub copied-more : (s : List Slot) (i : ℕ) (o : Slot) (before held : List HeldChannel) → i < length s → o ≡ get_or s i o → view_held before ≡ view_held (live (take i s))
-    → view_held held ≡ view_held before ++ view_held (live (o ∷ [])) → view_held held ≡ view_held (live (take (i + 1) s))
-copied-more s i o before held l is k e =
-    e ∙ ap (λ h. h ++ view_held (live (o ∷ []))) k ∙ sym (map-append view_one (live (take i s)) (live (o ∷ []))) ∙ ap view_held (sym (one-more s i o l is))
+those-both : (f : Name → Bool) (h k : Holding) → those f (h ++ k) ≡ those f h ++ those f k
+those-both f [] k = refl
+those-both f (e ∷ h) k = go (f e.0) (those-both f h k)
+  where
+    go : (b : Bool) → those f (h ++ k) ≡ those f h ++ those f k → (if b then e ∷ those f (h ++ k) else those f (h ++ k)) ≡ (if b then e ∷ those f h else those f h) ++ those f k
+    go true i = ap (λ l. e ∷ l) i
+    go false i = i
+
+none-of-those : (f : Name → Bool) (x : Name) (h : Holding) → found x h ≡ None → found x (those f h) ≡ None
+none-of-those f x [] i = refl
+none-of-those f x (e ∷ h) i = go (same_name x e.0) refl i (λ j. none-of-those f x h j)
+  where
+    kept : (b : Bool) → same_name x e.0 ≡ false → found x (those f h) ≡ None → found x (if b then e ∷ those f h else those f h) ≡ None
+    kept true s j = rw s j
+    kept false s j = j
+
+    go : (c : Bool) → same_name x e.0 ≡ c → (if c then Some e.1 else found x h) ≡ None → (found x h ≡ None → found x (those f h) ≡ None) → found x (if f e.0 then e ∷ those f h else those f h) ≡ None
+    go true s j later = absurd (let none : ⊥ = cc in none)
+    go false s j later = kept (f e.0) s (later j)
+
+-- what stands before a channel hasn't its name, and fewer haven't either
+pub apart-kept : (f : Name → Bool) (s : List Slot) (i : ℕ) (g : HeldChannel) → AreOnce s → i < length s → Some g ≡ get_or s i (Some g) → found g.name (those f (view_held (live (take i s)))) ≡ None
+apart-kept f s i g once l is = none-of-those f g.name (view_held (live (take i s))) (apart s i g once l is)
+
+pub copied-more : (f : Name → Bool) (s : List Slot) (i : ℕ) (o : Slot) (before held : List HeldChannel) → i < length s → o ≡ get_or s i o → view_held before ≡ those f (view_held (live (take i s)))
+    → view_held held ≡ view_held before ++ those f (view_held (live (o ∷ []))) → view_held held ≡ those f (view_held (live (take (i + 1) s)))
+copied-more f s i o before held l is k e =
+    e ∙ ap (λ h. h ++ those f (view_held (live (o ∷ [])))) k ∙ sym (those-both f (view_held (live (take i s))) (view_held (live (o ∷ []))))
+    ∙ ap (those f) (sym (map-append view_one (live (take i s)) (live (o ∷ [])))) ∙ ap (λ t. those f (view_held t)) (sym (one-more s i o l is))
+
+-- where no name is left out
+pub all-those : (h : Holding) → those (is_kept false []) h ≡ h
+all-those [] = refl
+all-those (e ∷ h) = ap (λ l. e ∷ l) (all-those h)
 
 -- What the map of places tells
 
@@ -298,9 +328,11 @@ last-set (q ∷ s) o p = ap (λ t. q ∷ t) (last-set s o p)
 
 pub came : (g : HeldChannel) (key : Name) (at : ℕ) (es after : List (Name × ℕ)) (s : List Slot) → Tell es s → AreOnce s → place g.name s ≡ None → key ≡ g.name → at ≡ length s
     → ((y : Name) → lookup (same_name y) after ≡ cond (same_name key y) (Some at) (lookup (same_name y) es)) → Tell after (s ++ Some g ∷ []) × AreOnce (s ++ Some g ∷ [])
-came g key at es after s tell once none k l rest =
-    (λ y. rest y ∙ ap (λ z. cond (same_name z y) (Some at) (lookup (same_name y) es)) k ∙ ap (λ n. cond (same_name g.name y) (Some n) (lookup (same_name y) es)) l
-    ∙ ap (cond (same_name g.name y) (Some (length s))) (tell y) ∙ sym (behind-place g y s none), behind-once g s once none)
+came g key at es after s tell once none k l rest = (
+  λ y. rest y ∙ ap (λ z. cond (same_name z y) (Some at) (lookup (same_name y) es)) k ∙ ap (λ n. cond (same_name g.name y) (Some n) (lookup (same_name y) es)) l
+      ∙ ap (cond (same_name g.name y) (Some (length s))) (tell y) ∙ sym (behind-place g y s none),
+  behind-once g s once none,
+)
 
 set-last : (s t u : List Slot) (at : ℕ) (g : HeldChannel) → t ≡ s ++ None ∷ [] → at ≡ length s → u ≡ slice_set t at (Some g) → u ≡ s ++ Some g ∷ []
 set-last s t u at g i j k = k ∙ ap (λ r. slice_set r at (Some g)) i ∙ ap (λ n. slice_set (s ++ None ∷ []) n (Some g)) j ∙ last-set s None (Some g)
@@ -331,3 +363,32 @@ pub first-none : (s : List Slot) (i : ℕ) → length s ≤ i → live (drop i s
 first-none s i l inv = ap (λ t. slice_get t 0) (sym (ap live (drop_all i s l)) ∙ inv)
 
 pub ruleset looking = (passed, first-is, first-none)
+
+-- the first of those whose names are wanted
+
+module _ (f : Name → Bool) (s : List Slot) (i : ℕ) where
+  those-at : (o : Slot) → i < length s → o ≡ get_or s i o
+      → those f (view_held (live (drop i s))) ≡ those f (view_held (live (o ∷ []))) ++ those f (view_held (live (drop (i + 1) s)))
+  those-at o l is =
+      let rest = drop (i + 1) s in
+      ap (λ t. those f (view_held t)) (live-at s i o l is ∙ live-append (o ∷ []) rest)
+      ∙ ap (those f) (map-append view_one (live (o ∷ [])) (live rest)) ∙ those-both f (view_held (live (o ∷ []))) (view_held (live rest))
+
+  pub those-passed : (o : Slot) → i < length s → o ≡ get_or s i o → None ≡ slice_get (those f (view_held (live (o ∷ [])))) 0
+      → those f (view_held (live (drop i s))) ≡ those f (view_held (live s)) → those f (view_held (live (drop (i + 1) s))) ≡ those f (view_held (live s))
+  those-passed o l is none inv = go (those f (view_held (live (o ∷ [])))) none (those-at o l is)
+    where
+      go : (h : Holding) → None ≡ slice_get h 0 → those f (view_held (live (drop i s))) ≡ h ++ those f (view_held (live (drop (i + 1) s))) → those f (view_held (live (drop (i + 1) s))) ≡ those f (view_held (live s))
+      go [] n e = sym e ∙ inv
+      go (c ∷ h) n e = absurd (let none : ⊥ = cc in none)
+
+  pub those-first : (o : Slot) (c : Name × Channel) → i < length s → o ≡ get_or s i o → Some c ≡ slice_get (those f (view_held (live (o ∷ [])))) 0
+      → those f (view_held (live (drop i s))) ≡ those f (view_held (live s)) → Some c ≡ slice_get (those f (view_held (live s))) 0
+  those-first o c l is some inv = go (those f (view_held (live (o ∷ [])))) some (those-at o l is)
+    where
+      go : (h : Holding) → Some c ≡ slice_get h 0 → those f (view_held (live (drop i s))) ≡ h ++ those f (view_held (live (drop (i + 1) s))) → Some c ≡ slice_get (those f (view_held (live s))) 0
+      go [] n e = absurd (let none : ⊥ = cc in none)
+      go (d ∷ h) n e = n ∙ ap (λ l. slice_get l 0) (sym e ∙ inv)
+
+  pub those-none : length s ≤ i → those f (view_held (live (drop i s))) ≡ those f (view_held (live s)) → None ≡ slice_get (those f (view_held (live s))) 0
+  those-none l inv = ap (λ t. slice_get t 0) (sym (ap (λ t. those f (view_held (live t))) (drop_all i s l)) ∙ inv)

@@ -1,15 +1,14 @@
 -- What judging answers, in turn.
-use Rattle.std.proofs.Common.{◌≡◌, ◌∙◌, refl, sym, ap, subst, ◌⊎◌, inl, inr, Result, Ok, Err}
+use Rattle.std.proofs.Common.{◌≡◌, ◌∙◌, refl, sym, ap, subst, inl, inr, Result}
 use Rattle.campl_seqcheck.specs.declared.fault.SeqFault.{SeqFault}
 use Rattle.campl_seqcheck.specs.declared.fault.SeqFault.TheVariants as s
 use Rattle.campl_seqcheck.specs.Judged as seq
 use Rattle.campl_seqcheck.specs.Answered as seq_answered
 use Rattle.campl_linear.specs.Faults as plain
-use Rattle.campl_seqcheck.specs.Judged.{Judged, Is, Fails, and_then}
+use Rattle.campl_seqcheck.specs.Judged.{Judged, Fails, and_then}
 use Rattle.campl_linear.specs.Judged.{from_seq}
 use Rattle.campl_held.specs.declared.fault.LinFault.{LinFault}
-use Rattle.campl_held.specs.declared.fault.LinFault.TheVariants as f
-use Rattle.campl_held.specs.Answered.{view_fault, Tells, Refused, Answers, from_fault}
+use Rattle.campl_held.specs.Answered.{Tells, Refused, Answers, from_fault}
 
 -- a refusal that was told
 pub refused : {B : Type 0} (j : Judged plain.LinFault B) (fault : plain.LinFault) (told : LinFault) → j ≡ Fails fault → Tells fault told → Refused j told
@@ -26,7 +25,7 @@ pub follows : {A B : Type 0} (seen : A → B) (j k : Judged plain.LinFault B) (r
 follows seen j k r i a = subst (λ h. Answers seen h r) (sym i) a
 
 -- a fault of the sequential rules
-pub from-seq : {B : Type 0} (j : seq.Judged SeqFault B) (fault : SeqFault) → seq_answered.Refused j fault → Refused (from_seq j) (from_fault fault)
+pub from-seq : {B : Type 0} (j : seq.Judged SeqFault B) (fault : SeqFault) → seq_answered.StopsAt j fault → Refused (from_seq j) (from_fault fault)
 from-seq j fault (inr e) = inr (ap from_fault e)
 from-seq j (s.TypeDiffers at found wanted) (inl e) = inl (ap from_seq e)
 from-seq j (s.NeedsType at) (inl e) = inl (ap from_seq e)

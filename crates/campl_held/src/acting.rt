@@ -8,18 +8,26 @@ ghost use Rattle.campl_seqcheck.specs.Judging.{checked};
 ghost use Rattle.campl_linear.specs.Judged.{from_seq};
 ghost use Rattle.campl_held.specs.Answered.{Answers};
 ghost use Rattle.campl_held.specs.Slots.{view_held};
-ghost use Rattle.campl_held.specs.Steps.{acted, acted_all, acted_put, acted_get, acted_split, acted_close, halted, Grown};
+ghost use Rattle.campl_held.specs.Chosen.{ChoicesAreDeclared};
+ghost use Rattle.campl_held.specs.Steps.{acted, acted_all, acted_put, acted_get, acted_hput, acted_split, acted_close, Grown};
 
-use crate::asking::{none_left, of_seq, two_new, used_to_end, used_to_get, used_to_put, used_to_split};
+use crate::asking::{used_to_end, used_to_get, used_to_pick, used_to_put, used_to_split};
+use crate::coming::two_new;
 use crate::fault::LinFault;
 use crate::held::Held;
+use crate::telling::of_seq;
+use crate::used::Pick;
+use campl_names::World;
 use campl_seqcheck::check_expr;
 use campl_tree::{Action, Binder, Expr, Ident, Place, SeqType};
-use campl_names::World;
 use campl_vars::Vars;
 use std::alloc::{AllocError, Global};
 
-/// Checks a value against a type.
+/// Checks a value against a type, under the variables in scope, which stay as they are.
+///
+/// # Errors
+///
+/// The first fault of the sequential rules (`Seq`), or `OutOfMemory` where memory wants.
 #[tactic(auto, using(crate::proofs::Told::sequential))]
 pub fn value_fits(
     alloc: Global,
@@ -29,7 +37,7 @@ pub fn value_fits(
     t: &SeqType,
 ) -> Result<(), LinFault>
     ensures judged { Answers (λ _. fine) (from_seq (checked (map view_decl world.now) (view_vars vars.old) (view_expr e.now) (view_seq t.now))) result }
-    ensures kept { OnOk result (vars.new ≡ vars.old) }
+    ensures kept { vars.new ≡ vars.old }
 {
     match check_expr(alloc, world, vars, e, t) {
         Ok(()) => Ok(()),
@@ -37,8 +45,12 @@ pub fn value_fits(
     }
 }
 
-/// Binds a value that comes.
-fn bind(alloc: Global, vars: &mut Vars, v: &Binder, t: &SeqType) -> Result<(), AllocError>
+/// Binds a value that comes: its variable has this type, and hides an older one of its name.
+///
+/// # Errors
+///
+/// `AllocError` for want of memory; then the variables may be other than before.
+pub fn bind(alloc: Global, vars: &mut Vars, v: &Binder, t: &SeqType) -> Result<(), AllocError>
     ensures bound { OnOk result (view_vars vars.new ≡ bound v.now (view_seq t.now) (view_vars vars.old)) }
     ensures grown { OnOk result (Grown vars.old vars.new) }
 {
@@ -113,6 +125,32 @@ fn get(
     }
 }
 
+/// `hput k on x`
+fn hput(
+    alloc: Global,
+    world: &World,
+    vars: &mut Vars,
+    held: &mut Held,
+    at: Place,
+    k: &Ident,
+    x: &Ident,
+) -> Result<(), LinFault>
+    requires { ChoicesAreDeclared (map view_decl world.now) }
+    ensures acted { Answers (λ _. (view_vars vars.new, view_held held.new)) (acted_hput at (map view_decl world.now) (view_vars vars.old) (view_held held.old) k.now x.now) result }
+    ensures grown { OnOk result (Grown vars.old vars.new) }
+{
+    let _ = vars;
+    let Pick { channel, rest } = match used_to_pick(alloc, world, at, &k.name, x, held) {
+        Ok(pick) => pick,
+        Err(fault) => return Err(fault),
+    };
+    let side = channel.side;
+    match held.go_on(alloc, &x.name, side, rest) {
+        Ok(()) => Ok(()),
+        Err(_) => Err(LinFault::OutOfMemory),
+    }
+}
+
 /// `split x into y, z`
 fn split(
     alloc: Global,
@@ -175,30 +213,6 @@ fn close(
     Ok(())
 }
 
-/// `halt`
-pub fn halt(
-    alloc: Global,
-    world: &World,
-    held: Held,
-    at: Place,
-    channel: &Option<Ident>,
-) -> Result<(), LinFault>
-    ensures { Answers (λ _. fine) (halted at (map view_decl world.now) (view_held held) channel.now) result }
-{
-    let mut held = held;
-    match channel {
-        None => none_left(alloc, at, &held),
-        Some(x) => {
-            match used_to_end(alloc, world, at, x, &held) {
-                Ok(_) => {}
-                Err(fault) => return Err(fault),
-            }
-            held.give_up(&x.name);
-            none_left(alloc, at, &held)
-        }
-    }
-}
-
 /// A command.
 fn act(
     alloc: Global,
@@ -207,6 +221,7 @@ fn act(
     held: &mut Held,
     action: &Action,
 ) -> Result<(), LinFault>
+    requires { ChoicesAreDeclared (map view_decl world.now) }
     ensures acted { Answers (λ _. (view_vars vars.new, view_held held.new)) (acted (map view_decl world.now) (view_vars vars.old) (view_held held.old) (view_action action.now)) result }
     ensures grown { OnOk result (Grown vars.old vars.new) }
 {
@@ -214,12 +229,18 @@ fn act(
         Action::Put(at, e, x) => put(alloc, world, vars, held, *at, e, x),
         Action::Get(at, v, x) => get(alloc, world, vars, held, *at, v, x),
         Action::Close(at, x) => close(alloc, world, vars, held, *at, x),
-        Action::Hput(_, _, _) => Err(LinFault::OutOfMemory),
+        Action::Hput(at, k, x) => hput(alloc, world, vars, held, *at, k, x),
         Action::Split(at, x, y, z) => split(alloc, world, vars, held, *at, x, y, z),
     }
 }
 
-/// Commands in order.
+/// Judges commands in order: what is in scope and held is then that behind them. New variables stand before the
+/// old, so that `truncate` brings those back.
+///
+/// # Errors
+///
+/// The first fault (E30 to E34 of an expression, E40, E41, E42), or `OutOfMemory` where memory wants; what is held
+/// and in scope may then be other than before. In a world where each name is declared once.
 pub fn act_all(
     alloc: Global,
     world: &World,
@@ -227,6 +248,7 @@ pub fn act_all(
     held: &mut Held,
     actions: &[Action],
 ) -> Result<(), LinFault>
+    requires { ChoicesAreDeclared (map view_decl world.now) }
     ensures acted { Answers (λ _. (view_vars vars.new, view_held held.new)) (acted_all (map view_decl world.now) (view_vars vars.old) (view_held held.old) (map view_action actions.now)) result }
     ensures grown { OnOk result (Grown vars.old vars.new) }
 {

@@ -5,11 +5,12 @@ ghost use Rattle.std.specs.Option.{option_copied};
 ghost use Rattle.campl_tree.specs.View.{view_chan};
 ghost use Rattle.campl_types.specs.Held.{On};
 ghost use Rattle.campl_types.specs.Names.{found};
-ghost use Rattle.campl_linear.specs.Holding.{given_up, goes_on, comes};
-ghost use Rattle.campl_held.specs.Slots.{view_channel, view_held, live, slot_at, AreOnce};
+ghost use Rattle.campl_linear.specs.Holding.{those, given_up, goes_on, comes};
+ghost use Rattle.campl_held.specs.Slots.{view_channel, view_one, view_held, live, slot_at, AreOnce, is_kept, is_outside};
 
 use crate::channel::HeldChannel;
 use crate::places::{forget, note};
+use campl_names::NameSet;
 use campl_tree::{ChanType, Name, Side};
 use indexmap::IndexMap;
 use sqlite_items::Items;
@@ -73,6 +74,10 @@ impl Held {
     }
 
     /// Lets the channel of a name, if it is held, go on with this side and type. It keeps its place.
+    ///
+    /// # Errors
+    ///
+    /// `AllocError` for want of memory.
     pub fn go_on(
         &mut self,
         alloc: Global,
@@ -98,6 +103,10 @@ impl Held {
     }
 
     /// Holds a new channel, behind the others.
+    ///
+    /// # Errors
+    ///
+    /// `AllocError` for want of memory.
     pub fn come(
         &mut self,
         alloc: Global,
@@ -129,11 +138,34 @@ impl Held {
         first_live(self.slots.as_slice())
     }
 
+    /// The first channel whose name is in neither set.
+    pub fn first_outside(&self, inputs: &NameSet, outputs: &NameSet) -> Option<&HeldChannel>
+        ensures { option_map view_one (option_copied result) ≡ slice_get (those (is_outside inputs.now outputs.now) (view_held self.now)) 0 }
+    {
+        first_slot(self.slots.as_slice(), inputs, outputs)
+    }
+
+    /// A copy of the channels whose names are in the set, or, where those aren't kept, of all others; in their order.
+    ///
+    /// # Errors
+    ///
+    /// `AllocError` for want of memory.
+    pub fn those(&self, alloc: Global, names: &NameSet, keep: bool) -> Result<Held, AllocError>
+        ensures { IfOk result (λ h. view_held h ≡ those (is_kept keep names.now) (view_held self.now)) }
+    {
+        copy_slots(alloc, self.slots.as_slice(), names, keep)
+    }
+
     /// A second copy.
+    ///
+    /// # Errors
+    ///
+    /// `AllocError` for want of memory.
     pub fn copy(&self, alloc: Global) -> Result<Held, AllocError>
         ensures { IfOk result (λ h. view_held h ≡ view_held self.now) }
     {
-        copy_slots(alloc, self.slots.as_slice())
+        let nothing = NameSet::new(alloc);
+        self.those(alloc, &nothing, false)
     }
 }
 
@@ -148,33 +180,58 @@ fn at_place(slots: &[Option<HeldChannel>], at: Option<usize>) -> Option<&HeldCha
     }
 }
 
-/// The channels of slots, as a process holds them.
-fn copy_slots(alloc: Global, slots: &[Option<HeldChannel>]) -> Result<Held, AllocError>
+/// A copy of those channels of slots whose names are kept.
+fn copy_slots(
+    alloc: Global,
+    slots: &[Option<HeldChannel>],
+    names: &NameSet,
+    keep: bool,
+) -> Result<Held, AllocError>
     requires { AreOnce slots.now }
-    ensures { IfOk result (λ h. view_held h ≡ view_held (live slots.now)) }
+    ensures { IfOk result (λ h. view_held h ≡ those (is_kept keep names.now) (view_held (live slots.now))) }
 {
     let mut held = Held::new(alloc);
     for i in 0..slots.len() {
-        add_slot(alloc, &mut held, &slots[i])?;
+        match add_slot(alloc, &mut held, &slots[i], names, keep) {
+            Ok(()) => {}
+            Err(error) => return Err(error),
+        }
     }
     Ok(held)
 }
 
-/// Holds a copy of the channel of a slot, if there is one.
+/// Holds a copy of the channel of a slot, if there is one whose name is kept.
 fn add_slot(
     alloc: Global,
     held: &mut Held,
     slot: &Option<HeldChannel>,
+    names: &NameSet,
+    keep: bool,
 ) -> Result<(), AllocError>
     requires { (g : HeldSeen) → slot.now ≡ Some g → found g.name (view_held held.old) ≡ None }
-    ensures { OnOk result (view_held held.new ≡ view_held held.old ++ view_held (live (slot.now ∷ []))) }
+    ensures { OnOk result (view_held held.new ≡ view_held held.old ++ those (is_kept keep names.now) (view_held (live (slot.now ∷ [])))) }
 {
     match slot {
         Some(channel) => {
-            let channel_type = channel.channel_type.copy(alloc)?;
-            held.come(alloc, &channel.name, channel.side, channel_type)
+            if kept(names, keep, &channel.name) {
+                let channel_type = channel.channel_type.copy(alloc)?;
+                held.come(alloc, &channel.name, channel.side, channel_type)
+            } else {
+                Ok(())
+            }
         }
         None => Ok(()),
+    }
+}
+
+/// Whether a name is kept.
+fn kept(names: &NameSet, keep: bool, name: &Name) -> bool
+    ensures { result ≡ is_kept keep names.now name.now }
+{
+    if keep {
+        names.has(name)
+    } else {
+        !names.has(name)
     }
 }
 
@@ -189,4 +246,41 @@ fn first_live(slots: &[Option<HeldChannel>]) -> Option<&HeldChannel>
         }
     }
     None
+}
+
+/// The first channel of slots whose name is in neither set.
+fn first_slot<'a>(
+    slots: &'a [Option<HeldChannel>],
+    inputs: &NameSet,
+    outputs: &NameSet,
+) -> Option<&'a HeldChannel>
+    ensures { option_map view_one (option_copied result) ≡ slice_get (those (is_outside inputs.now outputs.now) (view_held (live slots.now))) 0 }
+{
+    for i in 0..slots.len() {
+        match outside(&slots[i], inputs, outputs) {
+            Some(channel) => return Some(channel),
+            None => {}
+        }
+    }
+    None
+}
+
+/// The channel of a slot, if its name is in neither set.
+fn outside<'a>(
+    slot: &'a Option<HeldChannel>,
+    inputs: &NameSet,
+    outputs: &NameSet,
+) -> Option<&'a HeldChannel>
+    ensures { option_map view_one (option_copied result) ≡ slice_get (those (is_outside inputs.now outputs.now) (view_held (live (slot.now ∷ [])))) 0 }
+{
+    match slot {
+        Some(channel) => {
+            if inputs.has(&channel.name) || outputs.has(&channel.name) {
+                None
+            } else {
+                Some(channel)
+            }
+        }
+        None => None,
+    }
 }

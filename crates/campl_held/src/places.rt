@@ -16,11 +16,7 @@ pub fn forget(places: &mut IndexMap<Name, usize>, name: &Name) -> Option<usize>
 }
 
 /// Lets a name stand at a place.
-pub fn note(
-    places: &mut IndexMap<Name, usize>,
-    name: Name,
-    at: usize,
-) -> Result<(), AllocError>
+pub fn note(places: &mut IndexMap<Name, usize>, name: Name, at: usize) -> Result<(), AllocError>
     ensures noted { OnOk result ((x : List ℕ) → lookup (same_name x) places.new.entries ≡ cond (same_name name x) (Some at) (lookup (same_name x) places.old.entries)) }
     ensures err { OnErr result ((x : List ℕ) → lookup (same_name x) places.new.entries ≡ lookup (same_name x) places.old.entries) }
 {

@@ -1,7 +1,6 @@
-use Rattle.std.proofs.Common.{◌≡◌, ◌∙◌, refl, sym, ap, subst, Some, None, option_map, length, ◌++◌, ◌∷◌, []}
+use Rattle.std.proofs.Common.{◌∙◌, sym, ap, option_map}
 use Rattle.campl_types.specs.Names.{found}
-use Rattle.campl_linear.specs.Holding.{given_up, goes_on, comes}
-use Rattle.campl_held.specs.Slots.{view_channel, view_held, live, slot_at}
+use Rattle.campl_held.specs.Slots.{view_channel, view_held, slot_at}
 use Rattle.campl_held.proofs.Slots.{found-slot}
 use Rattle.campl_held.proofs.held.Held.find.Goals as goal
 

@@ -1,8 +1,7 @@
-use Rattle.std.proofs.Common.{◌≡◌, ◌∙◌, refl, sym, ap, subst, Some, None, option_map, length, ◌++◌, ◌∷◌, []}
-use Rattle.campl_types.specs.Names.{found}
-use Rattle.campl_linear.specs.Holding.{given_up, goes_on, comes}
-use Rattle.campl_held.specs.Slots.{view_channel, view_held, live, slot_at}
-use Rattle.campl_held.proofs.Slots.{place-within, emptied, not-there, gave-up, gave-none}
+use Rattle.std.proofs.Common.{◌∙◌, sym, ap}
+use Rattle.campl_linear.specs.Holding.{given_up}
+use Rattle.campl_held.specs.Slots.{view_held, live}
+use Rattle.campl_held.proofs.Slots.{place-within, emptied, not-there, gave-up}
 use Rattle.campl_held.proofs.held.Held.give_up.Goals as goal
 
 pub set-requires : goal.set-requires

@@ -1,9 +1,8 @@
 use Rattle.campl_tree.specs.View.{view_chan}
 use Rattle.campl_types.specs.Held.{On}
-use Rattle.std.proofs.Common.{◌≡◌, ◌∙◌, refl, sym, ap, subst, Some, None, option_map, length, ◌++◌, ◌∷◌, []}
-use Rattle.campl_types.specs.Names.{found}
-use Rattle.campl_linear.specs.Holding.{given_up, goes_on, comes}
-use Rattle.campl_held.specs.Slots.{view_channel, view_held, live, slot_at}
+use Rattle.std.proofs.Common.{◌∙◌, sym, ap}
+use Rattle.campl_linear.specs.Holding.{goes_on}
+use Rattle.campl_held.specs.Slots.{view_held, live}
 use Rattle.campl_held.proofs.Slots.{place-within, refilled, stays, went-on}
 use Rattle.campl_held.proofs.held.Held.go_on.Goals as goal
 
