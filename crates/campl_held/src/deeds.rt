@@ -32,25 +32,44 @@ pub enum Allowed<'a> {
 }
 
 /// The entry at a type that is held on a side.
-#[tactic(auto, using(crate::proofs::Entries::deeds))]
 pub fn entry_at<'a>(world: &World, t: &'a ChanType, side: Side) -> Allowed<'a>
     ensures { deed (map view_decl world.now) side (view_chan t.now) ≡ view_allowed (map view_decl world.now) result }
 {
-    match (t, side) {
-        (ChanType::Put(a, x), Side::Output) => Allowed::Puts(a, x.get()),
-        (ChanType::Put(a, x), Side::Input) => Allowed::Gets(a, x.get()),
-        (ChanType::Get(a, x), Side::Output) => Allowed::Gets(a, x.get()),
-        (ChanType::Get(a, x), Side::Input) => Allowed::Puts(a, x.get()),
-        (ChanType::Tensor(x, y), Side::Output) => Allowed::Forks(x.get(), y.get()),
-        (ChanType::Tensor(x, y), Side::Input) => Allowed::Splits(x.get(), y.get()),
-        (ChanType::Par(x, y), Side::Output) => Allowed::Splits(x.get(), y.get()),
-        (ChanType::Par(x, y), Side::Input) => Allowed::Forks(x.get(), y.get()),
-        (ChanType::TopBot, Side::Output) => Allowed::Ends,
-        (ChanType::TopBot, Side::Input) => Allowed::Ends,
-        (ChanType::Neg(_), Side::Output) => Allowed::Linked,
-        (ChanType::Neg(_), Side::Input) => Allowed::Linked,
-        (ChanType::Named(_, x, ts), Side::Output) => named_on_output(world, x, ts.as_slice()),
-        (ChanType::Named(_, x, ts), Side::Input) => named_on_input(world, x, ts.as_slice()),
+    match side {
+        Side::Output => on_output(world, t),
+        Side::Input => on_input(world, t),
+    }
+}
+
+/// The entry at a type on the output side.
+#[tactic(auto, using(crate::proofs::Entries::deeds))]
+fn on_output<'a>(world: &World, t: &'a ChanType) -> Allowed<'a>
+    ensures { deed (map view_decl world.now) Output (view_chan t.now) ≡ view_allowed (map view_decl world.now) result }
+{
+    match t {
+        ChanType::Put(value, rest) => Allowed::Puts(value, rest.get()),
+        ChanType::Get(value, rest) => Allowed::Gets(value, rest.get()),
+        ChanType::Tensor(first, second) => Allowed::Forks(first.get(), second.get()),
+        ChanType::Par(first, second) => Allowed::Splits(first.get(), second.get()),
+        ChanType::TopBot => Allowed::Ends,
+        ChanType::Neg(_) => Allowed::Linked,
+        ChanType::Named(_, name, arguments) => named_on_output(world, name, arguments.as_slice()),
+    }
+}
+
+/// The entry at a type on the input side.
+#[tactic(auto, using(crate::proofs::Entries::deeds))]
+fn on_input<'a>(world: &World, t: &'a ChanType) -> Allowed<'a>
+    ensures { deed (map view_decl world.now) Input (view_chan t.now) ≡ view_allowed (map view_decl world.now) result }
+{
+    match t {
+        ChanType::Put(value, rest) => Allowed::Gets(value, rest.get()),
+        ChanType::Get(value, rest) => Allowed::Puts(value, rest.get()),
+        ChanType::Tensor(first, second) => Allowed::Splits(first.get(), second.get()),
+        ChanType::Par(first, second) => Allowed::Forks(first.get(), second.get()),
+        ChanType::TopBot => Allowed::Ends,
+        ChanType::Neg(_) => Allowed::Linked,
+        ChanType::Named(_, name, arguments) => named_on_input(world, name, arguments.as_slice()),
     }
 }
 

@@ -1,7 +1,6 @@
 use Rattle.std.proofs.Common.{map}
 use Rattle.campl_tree.specs.View.{view_seq, view_decl}
 use Rattle.campl_types.specs.World.{type_named}
-use Rattle.campl_names.specs.Entries.{type_seen}
 use Rattle.campl_held.proofs.Chosen.{protocol-lines, coprotocol-lines}
 use Rattle.campl_held.proofs.choices.Constructors.lines.Goals as goal
 
