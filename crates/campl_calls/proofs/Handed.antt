@@ -5,7 +5,6 @@ use Rattle.std.proofs.lemmas.List.{drop_all}
 use Rattle.campl_tree.specs.declared.place.Ident.{Ident}
 use Rattle.campl_tree.specs.declared.service.Side.{Side}
 use Rattle.campl_tree.specs.declared.types.ChanType as code
-use Rattle.campl_tree.specs.Plain.ChanType.{ChanType}
 use Rattle.campl_tree.specs.View.{view_chan}
 use Rattle.campl_types.specs.Held.{Channel}
 use Rattle.campl_seqcheck.specs.Judged.{Fine, Judged, Is, Fails, and_then}
