@@ -1,5 +1,5 @@
 -- The definition's arms for `hcase`, `race`, `case` and `fork`: what stands in the way, and then the bodies.
-use Rattle.std.proofs.Common.{◌≡◌, refl, not, [], ◌∷◌, length, None}
+use Rattle.std.proofs.Common.{◌≡◌, refl, [], ◌∷◌, length, None}
 use Rattle.campl_tree.specs.declared.place.Place.{Place}
 use Rattle.campl_tree.specs.declared.place.Ident.{Ident}
 use Rattle.campl_tree.specs.Plain.SeqType.{SeqType}

@@ -2,7 +2,6 @@
 use Rattle.std.proofs.Common.{◌≡◌, ◌∙◌, refl, sym, ap, Bool, true, false, ◌||◌, not, ◌&&◌, if◌then◌else◌, List, [], ◌∷◌, Some, None, slice_get, ℕ, suc, ◌+◌, ◌<◌, ◌≤◌, length, drop, get_or, map}
 use Rattle.std.proofs.lemmas.List.{drop_all}
 use Rattle.campl_tree.specs.declared.place.Place.{Place}
-use Rattle.campl_tree.specs.declared.place.Ident.{Ident}
 use Rattle.campl_tree.specs.declared.process.HcaseRow.{HcaseRow}
 use Rattle.campl_tree.specs.declared.process.Branch.{Branch}
 use Rattle.campl_tree.specs.Plain.Process as b
@@ -12,8 +11,6 @@ use Rattle.campl_tree.proofs.Views.{view_hcase_row-out, view_branch-out}
 use Rattle.campl_types.specs.Names.{Name, same_name, is_among}
 use Rattle.campl_types.specs.World.{World}
 use Rattle.campl_types.specs.Polarity.{Choices}
-use Rattle.campl_types.specs.Held.{Channel}
-use Rattle.campl_types.proofs.Names.{or-assoc}
 use Rattle.campl_names.specs.NameSet.{with_name, HaveSame}
 use Rattle.campl_free.proofs.Gathered.{among-with, drop-at}
 use Rattle.campl_seqcheck.specs.Judged.{Fine, fine, Judged, Is, Fails, and_then}
@@ -47,7 +44,7 @@ module _ (x : Name) (u : Used Choices) where
   rows-same (b.hcase_row_then k body rows) before names h =
       ap (λ c. and_then (row_type k x u) (λ _. and_then (if c then Fails (CaseTwice k.place k.name) else Is fine) (λ _. rows_offered x u (k.name ∷ before) rows))) (h k.name)
       ∙ ap (λ r. and_then (row_type k x u) (λ _. and_then (if is_among k.name names then Fails (CaseTwice k.place k.name) else Is fine) (λ _. r)))
-        (rows-same rows (k.name ∷ before) (k.name ∷ names) (same-first k.name before names h))
+      (rows-same rows (k.name ∷ before) (k.name ∷ names) (same-first k.name before names h))
 
   module _ (rows : List HcaseRow) (i : ℕ) (r : HcaseRow) (l : i < length rows) (is : r ≡ get_or rows i r) where
     abbrev rest : HcaseRows
@@ -109,7 +106,7 @@ module _ (w : World) (held : Holding) where
   branches-same (b.branch_then x body rows) before names h =
       ap (λ a. and_then (held_at x held) (λ c. and_then (if not a && begins_with (deed_of w c) x.name body then Is fine else Fails (RaceForm x.place)) (λ _. branches_begin w held (x.name ∷ before) rows))) (h x.name)
       ∙ ap (λ r. and_then (held_at x held) (λ c. and_then (if not (is_among x.name names) && begins_with (deed_of w c) x.name body then Is fine else Fails (RaceForm x.place)) (λ _. r)))
-        (branches-same rows (x.name ∷ before) (x.name ∷ names) (same-first x.name before names h))
+      (branches-same rows (x.name ∷ before) (x.name ∷ names) (same-first x.name before names h))
 
   module _ (rows : List Branch) (i : ℕ) (r : Branch) (l : i < length rows) (is : r ≡ get_or rows i r) where
     abbrev others : Branches

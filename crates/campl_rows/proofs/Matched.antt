@@ -14,7 +14,6 @@ use Rattle.campl_seqcheck.specs.Answered.{StopsAt}
 use Rattle.campl_seqcheck.specs.Judged.{Fine, fine, Judged, Is, Fails, and_then}
 use Rattle.campl_seqcheck.specs.Fitting.{fit}
 use Rattle.campl_seqcheck.specs.RowPatterns.{MatchRow, bare_row, judge_each_row, exhaustive, match_forms, judge_match}
-use Rattle.campl_linear.specs.Faults.{LinFault}
 use Rattle.campl_linear.specs.Judged.{from_seq}
 use Rattle.campl_linear.specs.Rows.{patterns_fit}
 use Rattle.campl_held.specs.declared.fault.LinFault.{LinFault as Code}

@@ -1,5 +1,5 @@
 -- The receipt with which a body begins.
-use Rattle.std.proofs.Common.{◌≡◌, ◌∙◌, refl, sym, ap, Bool, List, [], ◌∷◌, Some, None, map, slice_get}
+use Rattle.std.proofs.Common.{◌≡◌, ◌∙◌, refl, ap, List, [], ◌∷◌, Some, None, map, slice_get}
 use Rattle.campl_tree.specs.declared.process.Body.{Body as CodeBody}
 use Rattle.campl_tree.specs.declared.process.Body as code
 use Rattle.campl_tree.specs.declared.process.Action as code_action
@@ -7,7 +7,7 @@ use Rattle.campl_tree.specs.Plain.Process as b
 use Rattle.campl_tree.specs.Plain.Process.{Body}
 use Rattle.campl_tree.specs.View.{view_action, view_last, view_body, actions_then}
 use Rattle.campl_tree.proofs.Views.{process_views, view_body-out}
-use Rattle.campl_types.specs.Names.{Name, same_name}
+use Rattle.campl_types.specs.Names.{Name}
 use Rattle.campl_types.specs.Polarity.{Deed, Puts, Gets, Forks, Splits, Picks, Offers, Ends, IsLinked, act_of}
 use Rattle.campl_linear.specs.Rows.{begins_with}
 use Rattle.campl_rows.specs.Receipts.{receipt_of, action_receipt, is_at}

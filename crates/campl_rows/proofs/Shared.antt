@@ -1,16 +1,17 @@
 -- What is held, divided by the names that are free in a body.
-use Rattle.std.proofs.Common.{◌≡◌, ◌∙◌, refl, sym, ap, Bool, true, false, not, if◌then◌else◌, List, [], ◌∷◌, Option, Some, None, Result, Ok, Err, IfOk}
+use Rattle.std.proofs.Common.{◌≡◌, ◌∙◌, refl, ap, Bool, true, false, not, if◌then◌else◌, List, [], ◌∷◌, Option, Some, None, Result, Ok, Err, IfOk}
 use Rattle.std.proofs.Math.Path.{fun_ext}
 use Rattle.campl_tree.specs.declared.place.Ident.{Ident}
 use Rattle.campl_tree.specs.Plain.Process.{Body}
 use Rattle.campl_types.specs.Names.{Name, same_name, is_among, found}
 use Rattle.campl_types.specs.Free.{is_free}
 use Rattle.campl_types.specs.Held.{Channel}
-use Rattle.campl_seqcheck.specs.Judged.{Fine, fine, Judged, Is, Fails, and_then}
-use Rattle.campl_linear.specs.Faults.{LinFault, LeftOver}
+use Rattle.campl_seqcheck.specs.Judged.{fine, Is, Fails, and_then}
+use Rattle.campl_linear.specs.Faults.{LeftOver}
 use Rattle.campl_linear.specs.Holding.{Holding, those, comes}
 use Rattle.campl_linear.specs.Channels.{is_new, two_new}
-use Rattle.campl_held.specs.Slots.{is_kept}
+use Rattle.campl_held.specs.declared.channel.HeldChannel.{HeldChannel}
+use Rattle.campl_held.specs.Slots.{is_kept, view_held}
 use Rattle.campl_rows.specs.Steps.{left_holding, right_holding}
 
 -- a name that isn't held is not held among some of the channels
@@ -45,7 +46,18 @@ module _ (names : List Name) (left : Body) (free : (n : Name) → is_among n nam
   pub right-share : comes x c (those (is_kept false names) held) ≡ right_holding x c left held
   right-share = ap (λ (keep : Name → Bool). comes x c (those (λ n. not (keep n)) held)) (fun_ext free)
 
-module _ {A E : Type 0} (f : A → Holding) (held other : Holding) (i : held ≡ other) where
-  pub if-ok : (r : Result A E) → IfOk r (λ p. f p ≡ held) → IfOk r (λ p. f p ≡ other)
-  if-ok (Ok p) j = j ∙ i
-  if-ok (Err e) j = j
+-- of a pair that may be there
+module _ {E : Type 0} (r : Result (List HeldChannel × List HeldChannel) E) (held other : Holding) (i : held ≡ other) where
+  pub first-is : IfOk r (λ p. view_held p.0 ≡ held) → IfOk r (λ p. view_held p.0 ≡ other)
+  first-is = go r
+    where
+      go : (q : Result (List HeldChannel × List HeldChannel) E) → IfOk q (λ p. view_held p.0 ≡ held) → IfOk q (λ p. view_held p.0 ≡ other)
+      go (Ok p) j = j ∙ i
+      go (Err e) j = j
+
+  pub second-is : IfOk r (λ p. view_held p.1 ≡ held) → IfOk r (λ p. view_held p.1 ≡ other)
+  second-is = go r
+    where
+      go : (q : Result (List HeldChannel × List HeldChannel) E) → IfOk q (λ p. view_held p.1 ≡ held) → IfOk q (λ p. view_held p.1 ≡ other)
+      go (Ok p) j = j ∙ i
+      go (Err e) j = j

@@ -67,12 +67,7 @@ pub fn row_variables(
 
 /// The type of a value.
 #[tactic(auto, using(crate::proofs::Matched::sequential))]
-fn value_type(
-    alloc: Global,
-    world: &World,
-    vars: &mut Vars,
-    e: &Expr,
-) -> Result<SeqType, LinFault>
+fn value_type(alloc: Global, world: &World, vars: &mut Vars, e: &Expr) -> Result<SeqType, LinFault>
     ensures judged { Answers view_seq (from_seq (judge (map view_decl world.now) (view_vars vars.old) (view_expr e.now) None)) result }
     ensures kept { vars.new ≡ vars.old }
 {
