@@ -12,8 +12,10 @@ use Rattle.campl_seqcheck.specs.Functions.{judge_functions}
 use Rattle.campl_seqcheck.specs.Judged.{Fails}
 use Rattle.campl_cli.specs.declared.refusal.Refusal.{Refusal}
 use Rattle.campl_cli.specs.declared.refusal.Refusal.TheVariants.{BadCommandLine, ReadFault, TooLong, NotUtf8, Source, NotBuilt, OutOfMemory}
-use Rattle.campl_cli.specs.Refusals.{IsRefusedText}
-use Rattle.campl_cli.specs.Source.{HasTree, IsJudged, IsRefusedForNames, IsRefusedForFunctions, IsRefusedJudged, refusal_of_typing}
+use Rattle.campl_cli.specs.declared.source.TreeFault.{TreeFault}
+use Rattle.campl_cli.specs.declared.source.TreeFault.TheVariants as tree
+use Rattle.campl_cli.specs.Refusals.{IsRefusedText, IsUnbuiltText}
+use Rattle.campl_cli.specs.Source.{HasTree, IsJudged, IsRefusedForNames, IsRefusedForFunctions, IsRefusedJudged, IsTreeRefusal, refusal_of_text, refusal_of_typing}
 
 -- what is told of functions is their first fault
 pub typing_refuses : (program : d.Program) (fault : SeqFault) → IsWellDeclared program → (judge_functions (world_of program) program ≡ Fails fault) ⊎ (fault ≡ typing.OutOfMemory)
@@ -64,3 +66,12 @@ text_refused text program TooLong tree h = h
 text_refused text program (NotUtf8 at) tree h = h
 text_refused text program NotBuilt tree h = absurd h
 text_refused text program ReadFault tree h = h
+
+-- a text that has no tree
+pub no_tree : (text : List ℕ) (fault : TreeFault) → IsTreeRefusal text fault → IsRefusedText text (refusal_of_text fault)
+no_tree text (tree.Wrong kind at) h = inl (kind, refl, h)
+no_tree text tree.OutOfMemory h = tt
+
+pub no_tree_either : (text : List ℕ) (fault : TreeFault) → IsTreeRefusal text fault → IsUnbuiltText text (refusal_of_text fault)
+no_tree_either text (tree.Wrong kind at) h = inl (kind, refl, h)
+no_tree_either text tree.OutOfMemory h = tt

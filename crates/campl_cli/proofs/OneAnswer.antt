@@ -15,8 +15,8 @@ use Rattle.campl_grammar.specs.Rules.{IsProgram, limit}
 use Rattle.campl_grammar.proofs.Exactness.{one_tree}
 use Rattle.campl_terminals.specs.Terminals.{terminals_of}
 use Rattle.campl_parse.specs.Parsing as parsing
-use Rattle.campl_cli.specs.declared.fault.FaultKind.{FaultKind}
-use Rattle.campl_cli.specs.declared.fault.FaultKind.TheVariants.{BadCharacter, OpenString, BadEscape, NumberTooLarge, NameTooLong, Tab, BadColumn, TextTooLong, Unexpected, TooDeep, Twice, Unknown, WrongKind, NoRun, RunNotService, TypeArguments, TypeDiffers, NeedsType, NotExhaustive, ArgumentCount, NameTwiceInPattern}
+use Rattle.campl_cli.specs.declared.kind.TextKind.{TextKind}
+use Rattle.campl_cli.specs.declared.kind.TextKind.TheVariants.{BadCharacter, OpenString, BadEscape, NumberTooLarge, NameTooLong, Tab, BadColumn, TextTooLong, Unexpected, TooDeep}
 use Rattle.campl_cli.specs.Source.{HasTokens, HasLayout, HasTree, IsTextFault}
 
 -- ---- tokens and layout
@@ -86,7 +86,7 @@ never_sinks these program at has stands =
 along : (text : List ℕ) (this that : List Token) (P : List Terminal → Type 0) → HasLayout text this → HasLayout text that → P (terminals_of text that) → P (terminals_of text this)
 along text this that P h k p = subst (λ (l : List Token). P (terminals_of text l)) (sym (same_layout text this that h k)) p
 
-pub tree_without_fault : (text : List ℕ) (program : Program) (kind : FaultKind) (at : Place) → HasTree text program → IsTextFault text kind at → ⊥
+pub tree_without_fault : (text : List ℕ) (program : Program) (kind : TextKind) (at : Place) → HasTree text program → IsTextFault text kind at → ⊥
 tree_without_fault text program BadCharacter at (laid, (tokens, lexed, is), has) fault = no_fault text tokens _ lexed fault
 tree_without_fault text program OpenString at (laid, (tokens, lexed, is), has) fault = no_fault text tokens _ lexed fault
 tree_without_fault text program BadEscape at (laid, (tokens, lexed, is), has) fault = no_fault text tokens _ lexed fault
@@ -99,17 +99,6 @@ tree_without_fault text program Unexpected at (laid, layout, has) (others, lie, 
     never_stops (terminals_of text laid) program at has (along text laid others (λ l. parsing.StandsAt (Stops limit IsProgram) l at) layout lie stands)
 tree_without_fault text program TooDeep at (laid, layout, has) (others, lie, stands) =
     never_sinks (terminals_of text laid) program at has (along text laid others (λ l. parsing.StandsAt (Sinks limit IsProgram) l at) layout lie stands)
-tree_without_fault text program Twice at has fault = fault
-tree_without_fault text program Unknown at has fault = fault
-tree_without_fault text program WrongKind at has fault = fault
-tree_without_fault text program NoRun at has fault = fault
-tree_without_fault text program RunNotService at has fault = fault
-tree_without_fault text program TypeArguments at has fault = fault
-tree_without_fault text program TypeDiffers at has fault = fault
-tree_without_fault text program NeedsType at has fault = fault
-tree_without_fault text program NotExhaustive at has fault = fault
-tree_without_fault text program ArgumentCount at has fault = fault
-tree_without_fault text program NameTwiceInPattern at has fault = fault
 
 pub same_tree : (text : List ℕ) (this that : Program) → HasTree text this → HasTree text that → this ≡ that
 same_tree text this that (laid, layout, has) (others, lie, have) =

@@ -16,8 +16,8 @@ use Rattle.campl_grammar.specs.Terminal.{Terminal}
 use Rattle.campl_grammar.specs.Rules.{IsProgram, limit}
 use Rattle.campl_terminals.specs.Terminals.{terminals_of}
 use Rattle.campl_parse.specs.Parsing.{StandsAt}
-use Rattle.campl_cli.specs.declared.fault.FaultKind.{FaultKind}
-use Rattle.campl_cli.specs.declared.fault.FaultKind.TheVariants.{BadCharacter, OpenString, BadEscape, NumberTooLarge, NameTooLong, Tab, BadColumn, TextTooLong, Unexpected, TooDeep, Twice, Unknown, WrongKind, NoRun, RunNotService, TypeArguments, TypeDiffers, NeedsType, NotExhaustive, ArgumentCount, NameTwiceInPattern}
+use Rattle.campl_cli.specs.declared.kind.TextKind.{TextKind}
+use Rattle.campl_cli.specs.declared.kind.TextKind.TheVariants.{BadCharacter, OpenString, BadEscape, NumberTooLarge, NameTooLong, Tab, BadColumn, TextTooLong, Unexpected, TooDeep}
 use Rattle.campl_cli.specs.Source.{HasTokens, HasLayout, IsTextFault, end_of}
 use Rattle.campl_cli.proofs.OneAnswer.{among, same_tokens, same_layout, no_fault}
 
@@ -78,7 +78,7 @@ agree P Q h k these at there this that = by (compared this.before this.word this
     by (later m p) = absurd (k that.before that.word m that.behind that.fault (subst (λ l. Begins limit IsProgram l) p this.begins))
 
 -- a fault of terminals
-data Wrong (kind : FaultKind) (these : List Terminal) (at : Place) : Type 0 where
+data Wrong (kind : TextKind) (these : List Terminal) (at : Place) : Type 0 where
   stops : kind ≡ Unexpected → StandsAt (Stops limit IsProgram) these at → Wrong kind these at
   sinks : kind ≡ TooDeep → StandsAt (Sinks limit IsProgram) these at → Wrong kind these at
 
@@ -90,11 +90,11 @@ never_both these at there this that =
 
 -- ---- texts
 
-record Same (kind other : FaultKind) (at there : Place) : Type 0 where
+record Same (kind other : TextKind) (at there : Place) : Type 0 where
   kinds : kind ≡ other
   places : at ≡ there
 
-same_wrong : (kind other : FaultKind) (these : List Terminal) (at there : Place) → Wrong kind these at → Wrong other these there → Same kind other at there
+same_wrong : (kind other : TextKind) (these : List Terminal) (at there : Place) → Wrong kind these at → Wrong other these there → Same kind other at there
 same_wrong kind other these at there (stops k h) (stops l j) =
     record { kinds = k ∙ sym l; places = (agree (Stops limit IsProgram) (Stops limit IsProgram) stopped stopped these at there h j).place }
 same_wrong kind other these at there (stops k h) (sinks l j) = absurd (never_both these at there h j)
@@ -103,7 +103,7 @@ same_wrong kind other these at there (sinks k h) (sinks l j) =
     record { kinds = k ∙ sym l; places = (agree (Sinks limit IsProgram) (Sinks limit IsProgram) sunk sunk these at there h j).place }
 
 -- how a fault of tokens is told
-abbrev Told : LexFault → FaultKind → Place → Type 0
+abbrev Told : LexFault → TextKind → Place → Type 0
 Told (lexing.BadCharacter p) kind at = (kind ≡ BadCharacter) × (at ≡ p)
 Told (lexing.OpenString p) kind at = (kind ≡ OpenString) × (at ≡ p)
 Told (lexing.BadEscape p) kind at = (kind ≡ BadEscape) × (at ≡ p)
@@ -114,7 +114,7 @@ Told (lexing.BadColumn p) kind at = (kind ≡ BadColumn) × (at ≡ p)
 Told (lexing.TextTooLong p) kind at = (kind ≡ TextTooLong) × (at ≡ p)
 Told lexing.OutOfMemory kind at = ⊥
 
-same_told : (fault : LexFault) (kind other : FaultKind) (at there : Place) → Told fault kind at → Told fault other there → Same kind other at there
+same_told : (fault : LexFault) (kind other : TextKind) (at there : Place) → Told fault kind at → Told fault other there → Same kind other at there
 same_told (lexing.BadCharacter p) kind other at there h k = record { kinds = h.0 ∙ sym k.0; places = h.1 ∙ sym k.1 }
 same_told (lexing.OpenString p) kind other at there h k = record { kinds = h.0 ∙ sym k.0; places = h.1 ∙ sym k.1 }
 same_told (lexing.BadEscape p) kind other at there h k = record { kinds = h.0 ∙ sym k.0; places = h.1 ∙ sym k.1 }
@@ -126,12 +126,12 @@ same_told (lexing.TextTooLong p) kind other at there h k = record { kinds = h.0 
 same_told lexing.OutOfMemory kind other at there h k = absurd h
 
 -- where in a text its fault is found
-data Found (text : List ℕ) (kind : FaultKind) (at : Place) : Type 0 where
+data Found (text : List ℕ) (kind : TextKind) (at : Place) : Type 0 where
   in_tokens : (fault : LexFault) → Lexes first_spot (chars text) (Err fault) → Told fault kind at → Found text kind at
   in_layout : (tokens : List Token) (fault : LexFault) → HasTokens text tokens → laid_out text (end_of text) tokens ≡ Err fault → Told fault kind at → Found text kind at
   in_terminals : (laid : List Token) → HasLayout text laid → Wrong kind (terminals_of text laid) at → Found text kind at
 
-found : (text : List ℕ) (kind : FaultKind) (at : Place) → IsTextFault text kind at → Found text kind at
+found : (text : List ℕ) (kind : TextKind) (at : Place) → IsTextFault text kind at → Found text kind at
 found text BadCharacter at h = in_tokens (lexing.BadCharacter at) h (refl, refl)
 found text OpenString at h = in_tokens (lexing.OpenString at) h (refl, refl)
 found text BadEscape at h = in_tokens (lexing.BadEscape at) h (refl, refl)
@@ -142,17 +142,6 @@ found text TextTooLong at h = in_tokens (lexing.TextTooLong at) h (refl, refl)
 found text BadColumn at (tokens, has, fails) = in_layout tokens (lexing.BadColumn at) has fails (refl, refl)
 found text Unexpected at (laid, layout, stands) = in_terminals laid layout (stops refl stands)
 found text TooDeep at (laid, layout, stands) = in_terminals laid layout (sinks refl stands)
-found text Twice at h = absurd h
-found text Unknown at h = absurd h
-found text WrongKind at h = absurd h
-found text NoRun at h = absurd h
-found text RunNotService at h = absurd h
-found text TypeArguments at h = absurd h
-found text TypeDiffers at h = absurd h
-found text NeedsType at h = absurd h
-found text NotExhaustive at h = absurd h
-found text ArgumentCount at h = absurd h
-found text NameTwiceInPattern at h = absurd h
 
 same_fault_of_tokens : (text : List ℕ) (these those : LexFault) → Lexes first_spot (chars text) (Err these) → Lexes first_spot (chars text) (Err those) → these ≡ those
 same_fault_of_tokens text these those h k = let e : ◌≡◌ {A = Result (List Token) LexFault} (Err these) (Err those) = one h k in cc
@@ -163,7 +152,7 @@ same_fault_of_layout text these those f g h k p q = let e = same_tokens text the
 laid_or_not : (text : List ℕ) (tokens laid : List Token) (f : LexFault) → HasTokens text tokens → laid_out text (end_of text) tokens ≡ Err f → HasLayout text laid → ⊥
 laid_or_not text tokens laid f h p (others, k, q) = let e = same_tokens text tokens others h k in cc
 
-same_found : (text : List ℕ) (kind other : FaultKind) (at there : Place) → Found text kind at → Found text other there → Same kind other at there
+same_found : (text : List ℕ) (kind other : TextKind) (at there : Place) → Found text kind at → Found text other there → Same kind other at there
 same_found text kind other at there (in_tokens f h t) (in_tokens g k u) =
     same_told f kind other at there t (subst (λ l. Told l other there) (sym (same_fault_of_tokens text f g h k)) u)
 same_found text kind other at there (in_tokens f h t) (in_layout ts g k p u) = absurd (no_fault text ts f k h)
@@ -177,5 +166,5 @@ same_found text kind other at there (in_terminals laid h t) (in_layout ts g k p 
 same_found text kind other at there (in_terminals laid h t) (in_terminals others k u) =
     same_wrong kind other (terminals_of text laid) at there t (subst (λ l. Wrong other (terminals_of text l) there) (sym (same_layout text laid others h k)) u)
 
-pub one_fault : (text : List ℕ) (kind other : FaultKind) (at there : Place) → IsTextFault text kind at → IsTextFault text other there → (kind ≡ other) × (at ≡ there)
+pub one_fault : (text : List ℕ) (kind other : TextKind) (at there : Place) → IsTextFault text kind at → IsTextFault text other there → (kind ≡ other) × (at ≡ there)
 one_fault text kind other at there h k = let s = same_found text kind other at there (found text kind at h) (found text other there k) in (s.kinds, s.places)

@@ -19,7 +19,7 @@ use Rattle.campl_types.specs.declared.fault.NameFault.TheVariants as naming
 use Rattle.campl_names.specs.Judges.{Judges}
 use Rattle.campl_names.specs.Judges as judge
 use Rattle.campl_types.specs.WellDeclared.{name_faults}
-use Rattle.campl_cli.specs.Source.{HasTokens, end_of, refusal_of_lexing, IsTreeRefusal, refusal_of_naming, IsRefusedForNames}
+use Rattle.campl_cli.specs.Source.{HasTokens, end_of, tree_fault_of, IsTreeRefusal, refusal_of_naming, IsRefusedForNames}
 
 -- a fault that tokens have
 abbrev IsOfTokens : LexFault → Type 0
@@ -59,15 +59,15 @@ fine_lexes (says.skips w rest b h) = fine_lexes h
 fine_lexes (says.takes {s} w rest {r} t h) = fine_adds (says.token s w ∷ []) r (fine_lexes h)
 fine_lexes (says.fails o) = fine_offends o
 
-pub lexing_refuses : (text : List ℕ) (f : LexFault) → (f ≢ lexing.OutOfMemory → Lexes first_spot (chars text) (Err f)) → IsTreeRefusal text (refusal_of_lexing f)
-lexing_refuses text (lexing.BadCharacter at) h = (refl, h (λ e. cc))
-lexing_refuses text (lexing.OpenString at) h = (refl, h (λ e. cc))
-lexing_refuses text (lexing.BadEscape at) h = (refl, h (λ e. cc))
-lexing_refuses text (lexing.NumberTooLarge at) h = (refl, h (λ e. cc))
-lexing_refuses text (lexing.NameTooLong at) h = (refl, h (λ e. cc))
-lexing_refuses text (lexing.Tab at) h = (refl, h (λ e. cc))
+pub lexing_refuses : (text : List ℕ) (f : LexFault) → (f ≢ lexing.OutOfMemory → Lexes first_spot (chars text) (Err f)) → IsTreeRefusal text (tree_fault_of f)
+lexing_refuses text (lexing.BadCharacter at) h = h (λ e. cc)
+lexing_refuses text (lexing.OpenString at) h = h (λ e. cc)
+lexing_refuses text (lexing.BadEscape at) h = h (λ e. cc)
+lexing_refuses text (lexing.NumberTooLarge at) h = h (λ e. cc)
+lexing_refuses text (lexing.NameTooLong at) h = h (λ e. cc)
+lexing_refuses text (lexing.Tab at) h = h (λ e. cc)
 lexing_refuses text (lexing.BadColumn at) h = absurd (fine_lexes (h (λ e. cc)))
-lexing_refuses text (lexing.TextTooLong at) h = (refl, h (λ e. cc))
+lexing_refuses text (lexing.TextTooLong at) h = h (λ e. cc)
 lexing_refuses text lexing.OutOfMemory h = tt
 
 -- ---- layout
@@ -132,18 +132,18 @@ column_only text end tokens = column_adds (first_brace text end tokens ∷ []) (
 
 -- a bad column is the first fault of a text with tokens
 pub layout_refuses : (text : List ℕ) (tokens : List Token) (f : LexFault) → HasTokens text tokens
-    → (f ≢ lexing.OutOfMemory → laid_out text (end_of text) tokens ≡ Err f) → IsTreeRefusal text (refusal_of_lexing f)
+    → (f ≢ lexing.OutOfMemory → laid_out text (end_of text) tokens ≡ Err f) → IsTreeRefusal text (tree_fault_of f)
 layout_refuses text tokens f has h = by f h (λ e. subst OnlyColumn (h e) (column_only text (end_of text) tokens))
   where
     by : (f : LexFault) → (f ≢ lexing.OutOfMemory → laid_out text (end_of text) tokens ≡ Err f) → (f ≢ lexing.OutOfMemory → OnlyColumn (let r : Result (List Token) LexFault = Err f in r))
-        → IsTreeRefusal text (refusal_of_lexing f)
+        → IsTreeRefusal text (tree_fault_of f)
     by (lexing.BadCharacter at) h k = absurd (k (λ e. cc))
     by (lexing.OpenString at) h k = absurd (k (λ e. cc))
     by (lexing.BadEscape at) h k = absurd (k (λ e. cc))
     by (lexing.NumberTooLarge at) h k = absurd (k (λ e. cc))
     by (lexing.NameTooLong at) h k = absurd (k (λ e. cc))
     by (lexing.Tab at) h k = absurd (k (λ e. cc))
-    by (lexing.BadColumn at) h k = (refl, (tokens, has, h (λ e. cc)))
+    by (lexing.BadColumn at) h k = (tokens, has, h (λ e. cc))
     by (lexing.TextTooLong at) h k = absurd (k (λ e. cc))
     by lexing.OutOfMemory h k = tt
 

@@ -17,8 +17,13 @@ use Rattle.campl_parse.specs.Parsing as parsing
 use Rattle.campl_cli.specs.declared.fault.SourceFault.{SourceFault}
 use Rattle.campl_cli.specs.declared.refusal.Refusal.{Refusal}
 use Rattle.campl_cli.specs.declared.refusal.Refusal.TheVariants.{BadCommandLine, ReadFault, TooLong, NotUtf8, Source, NotBuilt, OutOfMemory}
-use Rattle.campl_cli.specs.declared.fault.FaultKind.{FaultKind}
-use Rattle.campl_cli.specs.declared.fault.FaultKind.TheVariants.{BadCharacter, OpenString, BadEscape, NumberTooLarge, NameTooLong, Tab, BadColumn, TextTooLong, Unexpected, TooDeep, Twice, Unknown, WrongKind, NoRun, RunNotService, TypeArguments, TypeDiffers, NeedsType, NotExhaustive, ArgumentCount, NameTwiceInPattern}
+use Rattle.campl_cli.specs.declared.source.TreeFault.{TreeFault}
+use Rattle.campl_cli.specs.declared.source.TreeFault.TheVariants as tree
+use Rattle.campl_cli.specs.declared.fault.FaultKind.TheVariants.{Text, Name, Function}
+use Rattle.campl_cli.specs.declared.kind.TextKind.{TextKind}
+use Rattle.campl_cli.specs.declared.kind.TextKind.TheVariants.{BadCharacter, OpenString, BadEscape, NumberTooLarge, NameTooLong, Tab, BadColumn, TextTooLong, Unexpected, TooDeep}
+use Rattle.campl_cli.specs.declared.kind.NameKind.TheVariants.{Twice, Unknown, WrongKind, NoRun, RunNotService, TypeArguments}
+use Rattle.campl_cli.specs.declared.kind.FunctionKind.TheVariants.{TypeDiffers, NeedsType, NotExhaustive, ArgumentCount, NameTwiceInPattern}
 use Rattle.campl_cli.specs.declared.fault.Detail.TheVariants.{Nothing, Named, Counted, Differing, Missing}
 use Rattle.campl_tree.specs.View.{view_program}
 use Rattle.campl_tree.specs.Plain.Decl as d
@@ -53,7 +58,7 @@ abbrev pub HasNoTree : List ℕ → (List Terminal → List Terminal → Type 0)
 HasNoTree text is at = (laid : List Token) × HasLayout text laid × parsing.StandsAt is (terminals_of text laid) at
 
 -- the text's first fault of tokens, of layout or of the grammar
-abbrev pub IsTextFault : List ℕ → FaultKind → Place → Type 0
+abbrev pub IsTextFault : List ℕ → TextKind → Place → Type 0
 IsTextFault text BadCharacter at = Lexes first_spot (chars text) (Err (lexing.BadCharacter at))
 IsTextFault text OpenString at = Lexes first_spot (chars text) (Err (lexing.OpenString at))
 IsTextFault text BadEscape at = Lexes first_spot (chars text) (Err (lexing.BadEscape at))
@@ -64,17 +69,6 @@ IsTextFault text TextTooLong at = Lexes first_spot (chars text) (Err (lexing.Tex
 IsTextFault text BadColumn at = (tokens : List Token) × HasTokens text tokens × (laid_out text (end_of text) tokens ≡ Err (lexing.BadColumn at))
 IsTextFault text Unexpected at = HasNoTree text (Stops limit IsProgram) at
 IsTextFault text TooDeep at = HasNoTree text (Sinks limit IsProgram) at
-IsTextFault text Twice at = ⊥
-IsTextFault text Unknown at = ⊥
-IsTextFault text WrongKind at = ⊥
-IsTextFault text NoRun at = ⊥
-IsTextFault text RunNotService at = ⊥
-IsTextFault text TypeArguments at = ⊥
-IsTextFault text TypeDiffers at = ⊥
-IsTextFault text NeedsType at = ⊥
-IsTextFault text NotExhaustive at = ⊥
-IsTextFault text ArgumentCount at = ⊥
-IsTextFault text NameTwiceInPattern at = ⊥
 
 -- names are well declared, and functions typed
 pub record IsJudged (program : d.Program) : Type 0 where
@@ -87,12 +81,12 @@ HasJudged text program = HasTree text program × IsJudged (view_program program)
 
 -- how a fault of names is told
 abbrev pub told_of_names : NameFault → Option SourceFault
-told_of_names (naming.Twice at x) = Some (record { kind = Twice; place = at; detail = Named x })
-told_of_names (naming.Unknown at x) = Some (record { kind = Unknown; place = at; detail = Named x })
-told_of_names (naming.WrongKind at x) = Some (record { kind = WrongKind; place = at; detail = Named x })
-told_of_names (naming.TypeArguments at found wanted) = Some (record { kind = TypeArguments; place = at; detail = Counted found wanted })
-told_of_names (naming.NoRun at) = Some (record { kind = NoRun; place = at; detail = Nothing })
-told_of_names (naming.RunNotService at) = Some (record { kind = RunNotService; place = at; detail = Nothing })
+told_of_names (naming.Twice at x) = Some (record { kind = Name Twice; place = at; detail = Named x })
+told_of_names (naming.Unknown at x) = Some (record { kind = Name Unknown; place = at; detail = Named x })
+told_of_names (naming.WrongKind at x) = Some (record { kind = Name WrongKind; place = at; detail = Named x })
+told_of_names (naming.TypeArguments at found wanted) = Some (record { kind = Name TypeArguments; place = at; detail = Counted found wanted })
+told_of_names (naming.NoRun at) = Some (record { kind = Name NoRun; place = at; detail = Nothing })
+told_of_names (naming.RunNotService at) = Some (record { kind = Name RunNotService; place = at; detail = Nothing })
 told_of_names naming.OutOfMemory = None
 
 -- a program's first fault of names, as it is told
@@ -101,11 +95,11 @@ IsToldOfNames program f = (fault : NameFault) × ((more : List NameFault) × (na
 
 -- how a fault of functions is told
 abbrev pub told_of_functions : SeqFault → Option SourceFault
-told_of_functions (typing.TypeDiffers at found wanted) = Some (record { kind = TypeDiffers; place = at; detail = Differing found wanted })
-told_of_functions (typing.NeedsType at) = Some (record { kind = NeedsType; place = at; detail = Nothing })
-told_of_functions (typing.NotExhaustive at patterns) = Some (record { kind = NotExhaustive; place = at; detail = Missing patterns })
-told_of_functions (typing.ArgumentCount at found wanted) = Some (record { kind = ArgumentCount; place = at; detail = Counted found wanted })
-told_of_functions (typing.NameTwiceInPattern at x) = Some (record { kind = NameTwiceInPattern; place = at; detail = Named x })
+told_of_functions (typing.TypeDiffers at found wanted) = Some (record { kind = Function TypeDiffers; place = at; detail = Differing found wanted })
+told_of_functions (typing.NeedsType at) = Some (record { kind = Function NeedsType; place = at; detail = Nothing })
+told_of_functions (typing.NotExhaustive at patterns) = Some (record { kind = Function NotExhaustive; place = at; detail = Missing patterns })
+told_of_functions (typing.ArgumentCount at found wanted) = Some (record { kind = Function ArgumentCount; place = at; detail = Counted found wanted })
+told_of_functions (typing.NameTwiceInPattern at x) = Some (record { kind = Function NameTwiceInPattern; place = at; detail = Named x })
 told_of_functions typing.OutOfMemory = None
 
 -- the first fault of the functions of a well declared program, as it is told
@@ -115,34 +109,35 @@ IsToldOfFunctions program f =
 
 -- the text's first fault of tokens, of layout or of the grammar, as it is told: with no detail
 abbrev pub IsToldOfText : List ℕ → SourceFault → Type 0
-IsToldOfText text f = (f.detail ≡ Nothing) × IsTextFault text f.kind f.place
+IsToldOfText text f =
+    (kind : TextKind) × (f ≡ record { kind = Text kind; place = f.place; detail = Nothing }) × IsTextFault text kind f.place
 
 -- the text's first fault: that, or where it has a tree, the first of its names, or else of its functions
 abbrev pub IsSourceFault : List ℕ → SourceFault → Type 0
 IsSourceFault text f =
     IsToldOfText text f ⊎ ((program : Program) × HasTree text program × (IsToldOfNames (view_program program) f ⊎ IsToldOfFunctions (view_program program) f))
 
--- the refusal for a fault of tokens or of layout
-abbrev pub refusal_of_lexing : LexFault → Refusal
-refusal_of_lexing (lexing.BadCharacter at) = Source (record { kind = BadCharacter; place = at; detail = Nothing })
-refusal_of_lexing (lexing.OpenString at) = Source (record { kind = OpenString; place = at; detail = Nothing })
-refusal_of_lexing (lexing.BadEscape at) = Source (record { kind = BadEscape; place = at; detail = Nothing })
-refusal_of_lexing (lexing.NumberTooLarge at) = Source (record { kind = NumberTooLarge; place = at; detail = Nothing })
-refusal_of_lexing (lexing.NameTooLong at) = Source (record { kind = NameTooLong; place = at; detail = Nothing })
-refusal_of_lexing (lexing.Tab at) = Source (record { kind = Tab; place = at; detail = Nothing })
-refusal_of_lexing (lexing.BadColumn at) = Source (record { kind = BadColumn; place = at; detail = Nothing })
-refusal_of_lexing (lexing.TextTooLong at) = Source (record { kind = TextTooLong; place = at; detail = Nothing })
-refusal_of_lexing lexing.OutOfMemory = OutOfMemory
+-- a fault of tokens or of layout, as one of the tree
+abbrev pub tree_fault_of : LexFault → TreeFault
+tree_fault_of (lexing.BadCharacter at) = tree.Wrong BadCharacter at
+tree_fault_of (lexing.OpenString at) = tree.Wrong OpenString at
+tree_fault_of (lexing.BadEscape at) = tree.Wrong BadEscape at
+tree_fault_of (lexing.NumberTooLarge at) = tree.Wrong NumberTooLarge at
+tree_fault_of (lexing.NameTooLong at) = tree.Wrong NameTooLong at
+tree_fault_of (lexing.Tab at) = tree.Wrong Tab at
+tree_fault_of (lexing.BadColumn at) = tree.Wrong BadColumn at
+tree_fault_of (lexing.TextTooLong at) = tree.Wrong TextTooLong at
+tree_fault_of lexing.OutOfMemory = tree.OutOfMemory
 
 -- a text without a tree is refused for its first fault of tokens, layout or grammar; want of memory alone comes freely
-abbrev pub IsTreeRefusal : List ℕ → Refusal → Type 0
-IsTreeRefusal text (Source fault) = IsToldOfText text fault
-IsTreeRefusal text OutOfMemory = ⊤
-IsTreeRefusal text BadCommandLine = ⊥
-IsTreeRefusal text TooLong = ⊥
-IsTreeRefusal text (NotUtf8 at) = ⊥
-IsTreeRefusal text NotBuilt = ⊥
-IsTreeRefusal text ReadFault = ⊥
+abbrev pub IsTreeRefusal : List ℕ → TreeFault → Type 0
+IsTreeRefusal text (tree.Wrong kind at) = IsTextFault text kind at
+IsTreeRefusal text tree.OutOfMemory = ⊤
+
+-- the refusal of a text without a tree
+abbrev pub refusal_of_text : TreeFault → Refusal
+refusal_of_text (tree.Wrong kind at) = Source (record { kind = Text kind; place = at; detail = Nothing })
+refusal_of_text tree.OutOfMemory = OutOfMemory
 
 -- a fault is told, or else memory ran out
 abbrev pub refused_for : Option SourceFault → Refusal

@@ -129,7 +129,10 @@ fn read_source<F: Shelf>(alloc: Global, file: &str, shelf: &mut F) -> Result<Pri
 fn read_printer(alloc: Global, text: &Text) -> Result<Printer, Refusal>
     ensures { MatchResult result (λ printer. PrintsText text.now (prints_of printer)) (IsRefusedText text.now) }
 {
-    let program = tree_of(alloc, text)?;
+    let program = match tree_of(alloc, text) {
+        Ok(program) => program,
+        Err(fault) => return Err(Refusal::of_text(fault)),
+    };
     let Ok(printer) = printer_of(alloc, &program) else {
         return Err(Refusal::OutOfMemory);
     };
@@ -162,6 +165,6 @@ fn unbuilt_text(alloc: Global, text: &Text) -> Refusal
             Ok(()) => Refusal::NotBuilt,
             Err(refusal) => refusal,
         },
-        Err(refusal) => refusal,
+        Err(fault) => Refusal::of_text(fault),
     }
 }

@@ -7,12 +7,13 @@ ghost use Rattle.campl_types.specs.Sequential.{FunctionsAreTyped};
 ghost use Rattle.campl_tree.specs.Plain.Decl.{Program as Seen};
 ghost use Rattle.campl_cli.specs.Source.{IsJudged, IsRefusedForFunctions, IsRefusedJudged, refusal_of_typing};
 
-use crate::fault::FaultKind;
+use crate::fault::{Detail, FaultKind, SourceFault};
+use crate::kind::FunctionKind;
 use crate::names::judge_names;
 use crate::refusal::Refusal;
 use campl_names::World;
 use campl_seqcheck::{SeqFault, check_functions};
-use campl_tree::Program;
+use campl_tree::{Place, Program};
 use std::alloc::Global;
 
 /// Judges a program: its names, and then its functions.
@@ -45,19 +46,38 @@ fn refusal_of(fault: SeqFault) -> Refusal
             place,
             found,
             wanted,
-        } => Refusal::of_types(FaultKind::TypeDiffers, place, found, wanted),
-        SeqFault::NeedsType { place } => Refusal::at(FaultKind::NeedsType, place),
+        } => refused(
+            FunctionKind::TypeDiffers,
+            place,
+            Detail::Differing(found, wanted),
+        ),
+        SeqFault::NeedsType { place } => refused(FunctionKind::NeedsType, place, Detail::Nothing),
         SeqFault::NotExhaustive { place, missing } => {
-            Refusal::of_patterns(FaultKind::NotExhaustive, place, missing)
+            refused(FunctionKind::NotExhaustive, place, Detail::Missing(missing))
         }
         SeqFault::ArgumentCount {
             place,
             found,
             wanted,
-        } => Refusal::of_numbers(FaultKind::ArgumentCount, place, found, wanted),
+        } => refused(
+            FunctionKind::ArgumentCount,
+            place,
+            Detail::Counted { found, wanted },
+        ),
         SeqFault::NameTwiceInPattern { place, name } => {
-            Refusal::of_name(FaultKind::NameTwiceInPattern, place, name)
+            refused(FunctionKind::NameTwiceInPattern, place, Detail::Named(name))
         }
         SeqFault::OutOfMemory => Refusal::OutOfMemory,
     }
+}
+
+// The refusal for functions that are wrong so, at this place.
+fn refused(kind: FunctionKind, place: Place, detail: Detail) -> Refusal
+    ensures { result ≡ Refusal.Source (record { kind = FaultKind.Function kind; place = place; detail = detail }) }
+{
+    Refusal::Source(SourceFault {
+        kind: FaultKind::Function(kind),
+        place,
+        detail,
+    })
 }

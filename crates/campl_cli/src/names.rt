@@ -5,10 +5,11 @@ ghost use Rattle.campl_types.specs.WellDeclared.{IsWellDeclared};
 ghost use Rattle.campl_types.specs.World.{world_of};
 ghost use Rattle.campl_cli.specs.Source.{refusal_of_naming, IsRefusedForNames};
 
-use crate::fault::FaultKind;
+use crate::fault::{Detail, FaultKind, SourceFault};
+use crate::kind::NameKind;
 use crate::refusal::Refusal;
 use campl_names::{World, declare};
-use campl_tree::Program;
+use campl_tree::{Place, Program};
 use campl_types::NameFault;
 use std::alloc::Global;
 
@@ -28,16 +29,43 @@ fn refusal_of(fault: NameFault) -> Refusal
     ensures { result ≡ refusal_of_naming fault }
 {
     match fault {
-        NameFault::Twice { place, name } => Refusal::of_name(FaultKind::Twice, place, name),
-        NameFault::Unknown { place, name } => Refusal::of_name(FaultKind::Unknown, place, name),
-        NameFault::WrongKind { place, name } => Refusal::of_name(FaultKind::WrongKind, place, name),
+        NameFault::Twice { place, name } => refused(NameKind::Twice, place, Detail::Named(name)),
+        NameFault::Unknown { place, name } => refused(
+            NameKind::Unknown,
+            place,
+            Detail::Named(name),
+        ),
+        NameFault::WrongKind { place, name } => refused(
+            NameKind::WrongKind,
+            place,
+            Detail::Named(name),
+        ),
         NameFault::TypeArguments {
             place,
             found,
             wanted,
-        } => Refusal::of_numbers(FaultKind::TypeArguments, place, found, wanted),
-        NameFault::NoRun { place } => Refusal::at(FaultKind::NoRun, place),
-        NameFault::RunNotService { place } => Refusal::at(FaultKind::RunNotService, place),
+        } => refused(
+            NameKind::TypeArguments,
+            place,
+            Detail::Counted { found, wanted },
+        ),
+        NameFault::NoRun { place } => refused(NameKind::NoRun, place, Detail::Nothing),
+        NameFault::RunNotService { place } => refused(
+            NameKind::RunNotService,
+            place,
+            Detail::Nothing,
+        ),
         NameFault::OutOfMemory => Refusal::OutOfMemory,
     }
+}
+
+// The refusal for names that are wrong so, at this place.
+fn refused(kind: NameKind, place: Place, detail: Detail) -> Refusal
+    ensures { result ≡ Refusal.Source (record { kind = FaultKind.Name kind; place = place; detail = detail }) }
+{
+    Refusal::Source(SourceFault {
+        kind: FaultKind::Name(kind),
+        place,
+        detail,
+    })
 }

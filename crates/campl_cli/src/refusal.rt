@@ -1,10 +1,10 @@
 //! Why a command ends before its run.
 ghost use Rattle.std.specs.Prelude.{◌≡◌};
 ghost use Rattle.campl_cli.specs.Refusals.{status_of};
+ghost use Rattle.campl_cli.specs.Source.{refusal_of_text};
 
 use crate::fault::{Detail, FaultKind, SourceFault};
-use campl_shown::Shown;
-use campl_tree::{Name, Place};
+use crate::source::TreeFault;
 use thiserror::Error;
 
 /// The most bytes that a source has.
@@ -51,59 +51,18 @@ impl Drop for Refusal {
 }
 
 impl Refusal {
-    /// The source has this fault, of which nothing is told but its place.
-    pub(crate) fn at(kind: FaultKind, place: Place) -> Refusal
-        ensures { result ≡ Refusal.Source (record { kind = kind; place = place; detail = Detail.Nothing }) }
+    /// The refusal of a text that has no tree.
+    pub fn of_text(fault: TreeFault) -> Refusal
+        ensures { result ≡ refusal_of_text fault }
     {
-        Refusal::Source(SourceFault {
-            kind,
-            place,
-            detail: Detail::Nothing,
-        })
-    }
-
-    /// The source has this fault of a name.
-    pub(crate) fn of_name(kind: FaultKind, place: Place, name: Name) -> Refusal
-        ensures { result ≡ Refusal.Source (record { kind = kind; place = place; detail = Detail.Named name }) }
-    {
-        Refusal::Source(SourceFault {
-            kind,
-            place,
-            detail: Detail::Named(name),
-        })
-    }
-
-    /// The source has this fault of numbers.
-    pub(crate) fn of_numbers(kind: FaultKind, place: Place, found: usize, wanted: usize) -> Refusal
-        ensures { result ≡ Refusal.Source (record { kind = kind; place = place; detail = Detail.Counted found wanted }) }
-    {
-        Refusal::Source(SourceFault {
-            kind,
-            place,
-            detail: Detail::Counted { found, wanted },
-        })
-    }
-
-    /// The source has this fault of a type that is found where another is wanted.
-    pub(crate) fn of_types(kind: FaultKind, place: Place, found: Shown, wanted: Shown) -> Refusal
-        ensures { result ≡ Refusal.Source (record { kind = kind; place = place; detail = Detail.Differing found wanted }) }
-    {
-        Refusal::Source(SourceFault {
-            kind,
-            place,
-            detail: Detail::Differing(found, wanted),
-        })
-    }
-
-    /// The source has this fault of patterns that are missing.
-    pub(crate) fn of_patterns(kind: FaultKind, place: Place, missing: Shown) -> Refusal
-        ensures { result ≡ Refusal.Source (record { kind = kind; place = place; detail = Detail.Missing missing }) }
-    {
-        Refusal::Source(SourceFault {
-            kind,
-            place,
-            detail: Detail::Missing(missing),
-        })
+        match fault {
+            TreeFault::Wrong { kind, place } => Refusal::Source(SourceFault {
+                kind: FaultKind::Text(kind),
+                place,
+                detail: Detail::Nothing,
+            }),
+            TreeFault::OutOfMemory => Refusal::OutOfMemory,
+        }
     }
 
     /// The exit status that goes with it.

@@ -3,16 +3,13 @@ use Rattle.std.proofs.Common.{List, [], ◌∷◌, map}
 use Rattle.campl_tree.specs.Plain.SeqType.{SeqType}
 use Rattle.campl_value.specs.Tree.{Tree, trees_of}
 use Rattle.campl_types.specs.Substitution.{Filling, filled}
-use Rattle.campl_types.specs.Values.{IsValue, AreValues, AllAreValues}
+use Rattle.campl_types.specs.Values.{AreValues, AllAreValues}
 use Rattle.campl_types.proofs.Instances.{value-of-instance}
 use Rattle.campl_types.specs.World.{World}
 
-pub instance-of : (w : World) (v : Tree) (f : Filling) (t : SeqType) → IsValue w v (filled f t) → IsValue w v t
-instance-of w v f t h = value-of-instance w v f t h
-
 pub instances-of : (w : World) (vs : List Tree) (f : Filling) (ts : List SeqType) → AllAreValues w vs (map (filled f) ts) → AllAreValues w vs ts
 instances-of w [] f [] h = tt
-instances-of w (v ∷ vs) f (t ∷ ts) (h, k) = (instance-of w v f t h, instances-of w vs f ts k)
+instances-of w (v ∷ vs) f (t ∷ ts) (h, k) = (value-of-instance w v f t h, instances-of w vs f ts k)
 instances-of w [] f (t ∷ ts) h = absurd h
 instances-of w (v ∷ vs) f [] h = absurd h
 

@@ -25,7 +25,8 @@ use Rattle.campl_types.proofs.TypedRows.{row-at, function-chooses, case-chooses}
 use Rattle.campl_evaluation.specs.Evaluation.{Answer, Done, Deep, Wrong, More, and_then, truth, int, char, holds, calculated, char_of, Caller, value, values, row_value, body_value, calls, value_of}
 use Rattle.campl_evaluation.specs.Typed.{AreBound, Fine, CallerIsSound}
 use Rattle.campl_evaluation.specs.Worlds.{IsSoundWorld}
-use Rattle.campl_evaluation.proofs.Instance.{instance-of, instances-of}
+use Rattle.campl_types.proofs.Instances.{value-of-instance}
+use Rattle.campl_evaluation.proofs.Instance.{instances-of}
 use Rattle.campl_evaluation.proofs.Bound.{bound-append, bound-found, row-bound, one-bound}
 use Rattle.campl_evaluation.proofs.Whole.{built-is}
 use Rattle.campl_evaluation.proofs.Forms.{fine-then, fine-given, fine-made, is-truth, is-int, is-char, text-is, append-is, AllOf, list-is, compares}
@@ -78,7 +79,7 @@ call-fine w call ok f x fd ts us m t i l j p =
 case-chosen : (w : World) → IsSoundWorld w → (f : Filling) (rows : ExprRows) (u : SeqType) (v : Tree) → AreExhaustive w (expr_rows rows) (u ∷ []) → IsValue w v (filled f u)
     → SomeRowMatches w (expr_rows rows) (v ∷ [])
 case-chosen w good f rows u v x p =
-    case-chooses w good.constructors rows u v x (instance-of w v f u p)
+    case-chooses w good.constructors rows u v x (value-of-instance w v f u p)
 
 mutual
   pub sound : (w : World) → IsSoundWorld w → (call : Caller) → CallerIsSound w call → (way : Way) (f : Filling) (vs : Vars) (a : Expr) (t : SeqType) (vars : Bindings) (n : ℕ)

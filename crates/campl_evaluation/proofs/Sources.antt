@@ -23,7 +23,7 @@ use Rattle.campl_evaluation.specs.Evaluation.{calls, value_of, values_of}
 use Rattle.campl_evaluation.specs.Typed.{AreBound, Fine}
 use Rattle.campl_evaluation.specs.Worlds.{IsSoundWorld}
 use Rattle.campl_evaluation.proofs.Bound.{bound-append, one-bound}
-use Rattle.campl_evaluation.proofs.Instance.{instance-of}
+use Rattle.campl_types.proofs.Instances.{value-of-instance}
 use Rattle.campl_evaluation.proofs.Declared.{typed-world}
 use Rattle.campl_evaluation.proofs.Sound.{sound-parts, calls-fine, value-is-fine}
 use Rattle.campl_types.specs.Values.{IsValue, AllAreValues}
@@ -83,7 +83,7 @@ pub case-goes : (w : World) → IsSoundWorld w → (vs : Vars) (held : Held) (t 
     × AreBound w [] (r.1 ++ vars) us × IsWellFormed w us held q.1
 case-goes w good vs held t rows v vars cases all bound h =
     let typed : IsValue w v (filled [] t) = subst (IsValue w v) (sym (filled-nothing t)) h in
-    go typed (body-case-chooses w good.constructors rows t v all (instance-of w v [] t typed))
+    go typed (body-case-chooses w good.constructors rows t v all (value-of-instance w v [] t typed))
   where
     go : IsValue w v (filled [] t) → SomeRowMatches w (body_rows rows) (v ∷ [])
         → (r : ℕ × Bindings) × (q : Pattern × Body) × (us : Vars) × (first_match w (body_rows rows) (v ∷ []) ≡ Some r) × (row_body rows r.0 ≡ Some q)

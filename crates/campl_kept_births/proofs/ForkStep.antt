@@ -38,35 +38,24 @@ use Rattle.campl_meaning.specs.Views.{view_in, view_of, Takes, TakesAll, taken_a
 use Rattle.campl_meaning.specs.Apart.{Place, At, In, Gone, IsCarried, IsJoined, Holder, Pair, owes_pair, node_of, graph}
 use Rattle.campl_meaning.specs.Lawful.{Channels, seen, IsTypedAt, IsPairOf, Agree, Lawful}
 use Rattle.campl_meaning.proofs.Finite.{finite-of, finite-kept}
+use Rattle.campl_meaning.proofs.Agreeing.{agree-turned}
+use Rattle.campl_meaning.proofs.Pairs.{pair-or-none, carried-right, carried-owes}
 use Rattle.campl_peel.proofs.Terms.{ends-with}
 use Rattle.campl_kept_births.proofs.Naming.{some-or-none}
 use Rattle.campl_kept_births.proofs.Listed.{IsTidy, found-kept, found-still, not-kept, found-more, found-without, still-without, lists-first, lists-more, lists-later, tidy-those, tidy-more, tidy-without}
 use Rattle.campl_kept_births.proofs.Bare.{IsForkAt, fork-at}
-use Rattle.campl_kept_births.proofs.Frame.{some-is, lists, lists-found, found-listed, not-true, agree-same, agree-turned, IsGoodPair, settled, Hands, at-other, at-own, at-kin, lawful-after}
-use Rattle.campl_kept_births.proofs.Masks.{ends-apart, nodes-apart, same_node, masked, standing-some, standing-none, mask, unmask, at-holder, at-pair, node-at, node-in, node-gone, pair-there, owes-last, carried-owes}
+use Rattle.campl_kept_births.proofs.Frame.{some-is, lists, lists-found, found-listed, agree-same, IsGoodPair, settled, Hands, at-other, at-own, at-kin, lawful-after}
+use Rattle.campl_kept_births.proofs.Masks.{ends-apart, nodes-apart, same_node, masked, standing-some, standing-none, mask, unmask, at-holder, at-pair, node-at, node-in, node-gone, owes-last}
 use Rattle.campl_kept_births.proofs.Newborn.{born-differ, born-fresh, born-idle, not-born, own-place, no-child-yet, child-not, family, parent-there, child-there, others-there, new-agree}
 use Rattle.campl_kept_births.proofs.SplitStep.{end-of, held-of, held-without}
 use Rattle.campl_types.proofs.Bare.{bare-chan-twice}
+use Rattle.campl_types.proofs.Truth.{not-true}
 
 -- Messages with one more
 
 pub takes-last : (w : World) (v : View) (ms : List Message) (m : Message) (mid last : View) → TakesAll w v ms mid → Takes w mid m last → TakesAll w v (ms ++ (m ∷ [])) last
 takes-last w v [] m mid last h k = (last, subst (λ q. Takes w q m last) (sym h) k, refl)
 takes-last w v (n ∷ ms) m mid last (next, t, h) k = (next, t, takes-last w next ms m mid last h k)
-
-pub carried-left : (ms ns : List Message) (e : End) → IsCarried ms e → IsCarried (ms ++ ns) e
-carried-left [] ns e i = absurd i
-carried-left (Word v ∷ ms) ns e i = carried-left ms ns e i
-carried-left (Pick n ∷ ms) ns e i = carried-left ms ns e i
-carried-left (EndPair f g ∷ ms) ns e (inl i) = inl i
-carried-left (EndPair f g ∷ ms) ns e (inr (inl i)) = inr (inl i)
-carried-left (EndPair f g ∷ ms) ns e (inr (inr i)) = inr (inr (carried-left ms ns e i))
-
-pub carried-right : (ms ns : List Message) (e : End) → IsCarried ns e → IsCarried (ms ++ ns) e
-carried-right [] ns e i = i
-carried-right (Word v ∷ ms) ns e i = carried-right ms ns e i
-carried-right (Pick n ∷ ms) ns e i = carried-right ms ns e i
-carried-right (EndPair f g ∷ ms) ns e i = inr (inr (carried-right ms ns e i))
 
 pub carried-either : (ms ns : List Message) (e : End) → IsCarried (ms ++ ns) e → IsCarried ms e ⊎ IsCarried ns e
 carried-either [] ns e i = inr i
@@ -552,11 +541,9 @@ module _ (source : Program) (c : Configuration) (l : Lawful source c) (p : Path)
   -- Part 4
 
   no-pair : owes_pair (c.owed end) ≡ false
-  no-pair = elim (split (owes_pair (c.owed end))) [
-    | inl i ↦
-        let (before, m, n, after, q) = pair-there (c.owed end) i in
-        absurd (let g : l.place end ≡ Gone = (l.pairs.given_up end m n before after q).0 in cc (g, end-place))
-    | inr i ↦ i
+  no-pair = elim (pair-or-none (c.owed end)) [
+    | inl i ↦ i
+    | inr h ↦ absurd (let g : l.place end ≡ Gone = (l.pairs.given_up end h.one h.other h.before h.after h.is).0 in cc (g, end-place))
   ]
 
   not-carried : (e : End) → IsCarried (c.owed end) e → ⊥

@@ -1,5 +1,5 @@
 -- What a step of one process keeps that may bear a child and channels, and hand over ends.
-use Rattle.std.proofs.Common.{◌≡◌, ◌≢◌, ◌⊎◌, ◌∙◌, inl, inr, refl, sym, ap, subst, ℕ, suc, ◌≤◌, arith, Bool, true, false, ◌&&◌, ◌||◌, not, true≢false, IsTrue, List, [], ◌∷◌, ◌++◌, Option, Some, None, if◌then◌else◌}
+use Rattle.std.proofs.Common.{◌≡◌, ◌≢◌, ◌⊎◌, ◌∙◌, inl, inr, refl, sym, ap, subst, ℕ, suc, ◌≤◌, arith, Bool, true, false, ◌||◌, not, true≢false, IsTrue, List, [], ◌∷◌, ◌++◌, Option, Some, None, if◌then◌else◌}
 use Rattle.std.proofs.Math.Path.{fun_ext}
 use Rattle.campl_tree.specs.declared.service.Side.{Side}
 use Rattle.campl_tree.specs.Plain.ChanType.{TopBot}
@@ -14,10 +14,13 @@ use Rattle.campl_types.specs.World.{World, world_of}
 use Rattle.campl_types.specs.Held.{Channel, On}
 use Rattle.campl_types.specs.Views.{turned}
 use Rattle.campl_types.proofs.Names.{same-is, same-itself}
-use Rattle.campl_types.proofs.Turned.{turned-twice}
 use Rattle.campl_service.specs.declared.phase.Phase.{Phase}
 use Rattle.campl_service.specs.declared.phase.Phase.TheVariants as phase
 use Rattle.campl_peel.specs.Terms.{TermIsWellFormed, held_ends}
+use Rattle.campl_types.proofs.Truth.{or-first, or-second, not-true}
+use Rattle.campl_peel.proofs.Standing.{and-both}
+use Rattle.campl_meaning.proofs.Named.{at-most-more}
+use Rattle.campl_meaning.proofs.Independent.{number-of-child}
 use Rattle.campl_meaning.specs.States.{Message, Word, Pick, EndPair, Ends, Running, Attending, State, Runs, Serves}
 use Rattle.campl_meaning.specs.Wants.{child}
 use Rattle.campl_meaning.specs.Reductions.{Configuration}
@@ -25,7 +28,7 @@ use Rattle.campl_meaning.specs.Views.{TakesAll}
 use Rattle.campl_meaning.specs.Apart.{Place, At, In, Gone, IsCarried, IsJoined, IsHeldBy, IsServedBy, IsOfKind, IsPlaced, IsApart, IsAtMost, graph, number_after, number_in_end, end_names}
 use Rattle.campl_meaning.specs.Lawful.{Channels, seen, IsTypedAt, Agree, IsPairOf, AreLastPairs, IsInPhase, Lawful}
 use Rattle.campl_meaning.proofs.Finite.{IsFinite}
-use Rattle.campl_kept_births.proofs.Naming.{at-most, of-none, of-some, some-at-most, some-or-none, number-of-child, after-own, before-child, after-child, child-after-parent, child-is-no-parent, longer, in-end-own, in-end-other, in-end-child, paths-differ}
+use Rattle.campl_kept_births.proofs.Naming.{of-none, of-some, some-at-most, some-or-none, after-own, before-child, after-child, child-after-parent, child-is-no-parent, longer, in-end-own, in-end-other, in-end-child, paths-differ}
 
 -- Lists of ends
 
@@ -33,17 +36,6 @@ use Rattle.campl_kept_births.proofs.Naming.{at-most, of-none, of-some, some-at-m
 abbrev pub lists : End → Ends → Bool
 lists e [] = false
 lists e (x ∷ xs) = same_end e x.1 || lists e xs
-
-pub or-first : (a b : Bool) → a ≡ true → (a || b) ≡ true
-or-first a b i = rw i refl
-
-pub or-second : (a b : Bool) → b ≡ true → (a || b) ≡ true
-or-second true b i = refl
-or-second false b i = i
-
-pub or-split : (a b : Bool) → (a || b) ≡ true → (a ≡ true) ⊎ (b ≡ true)
-or-split true b i = inl refl
-or-split false b i = inr i
 
 pub some-is : {A : Type 0} (x y : A) → ◌≡◌ {A = Option A} (Some x) (Some y) → x ≡ y
 some-is x y e = cc e
@@ -64,14 +56,6 @@ found-among x (y ∷ es) e i = elim (split (same_name x y.0)) [
   | inl s ↦ or-first (same_name x y.0) (is_among x (end_names es)) s
   | inr s ↦ let j : found x es ≡ Some e = rw s at i in or-second (same_name x y.0) (is_among x (end_names es)) (found-among x es e j)
 ]
-
-pub and-both : (a b : Bool) → (a && b) ≡ true → (a ≡ true) × (b ≡ true)
-and-both true b i = (refl, i)
-and-both false b i = absurd (true≢false (sym i))
-
-pub not-true : (a : Bool) → not a ≡ true → a ≡ false
-not-true true i = absurd (true≢false (sym i))
-not-true false i = refl
 
 -- and what stands there is found, where names differ
 pub found-listed : (e : End) (es : Ends) → IsTrue (are_distinct (end_names es)) → lists e es ≡ true → (x : Name) × (found x es ≡ Some e)
@@ -101,9 +85,6 @@ same-held channel channel2 es h = fun_ext (λ x. go x (found x es) refl)
     go : (x : Name) (o : Option End) → found x es ≡ o → held_ends channel2 es x ≡ held_ends channel es x
     go x None i = rw i refl
     go x (Some e) i = rw i (h x e i)
-
-pub agree-turned : (w : World) (c : Configuration) (channel : Channels) (e f : End) → Agree w c channel e f → Agree w c channel f e
-agree-turned w c channel e f a = record { left = turned a.left; mine = a.yours; yours = subst (λ v. TakesAll w (seen channel e) (c.owed f) v) (sym (turned-twice a.left)) a.mine }
 
 pub agree-same : (w : World) (c d : Configuration) (channel channel2 : Channels) (e f : End) → seen channel2 e ≡ seen channel e → seen channel2 f ≡ seen channel f
     → d.owed e ≡ c.owed e → d.owed f ≡ c.owed f → Agree w c channel e f → Agree w d channel2 e f
@@ -432,7 +413,7 @@ module _ (source : Program) (c d : Configuration) (l : Lawful source c) (p : Pat
     | inr (inl (k, m, i, j)) ↦
         of-some _ (suc r.steps) r2.steps (subst (λ z. number_after p z ≡ Some (suc r.steps)) (sym (process-is q (p ++ (birth ∷ [])) i)) (number-of-child p birth))
         (omega (arith, h.steps))
-    | inr (inr (n, i)) ↦ at-most _ r.steps r2.steps (omega (arith, h.steps)) (l.apart.named.paths p q r t h.there i)
+    | inr (inr (n, i)) ↦ at-most-more _ r.steps r2.steps (omega (arith, h.steps)) (l.apart.named.paths p q r t h.there i)
   ]
 
   other-paths : (q2 q : Path) (s : Running) (t : State) → Process q2 ≢ Process p → c.nodes (Process q2) ≡ Some (Runs s) → d.nodes (Process q) ≡ Some t → IsAtMost (number_after q2 q) s.steps
@@ -453,7 +434,7 @@ module _ (source : Program) (c d : Configuration) (l : Lawful source c) (p : Pat
 
   own-ends : (e : End) → IsJoined d e → IsAtMost (number_in_end p e) r2.steps
   own-ends e j = elim (h.joined e j) [
-    | inl i ↦ at-most _ r.steps r2.steps (omega (arith, h.steps)) (l.apart.named.channels p r e h.there i)
+    | inl i ↦ at-most-more _ r.steps r2.steps (omega (arith, h.steps)) (l.apart.named.channels p r e h.there i)
     | inr (a, b) ↦ of-some _ e.step r2.steps (in-end-own p e a) (omega (arith, b, h.steps))
   ]
 

@@ -1,34 +1,21 @@
 -- The steps as reductions.
-use Rattle.std.proofs.Common.{◌≡◌, ap, subst, ℕ, true, Option, Some, None, option_map}
+use Rattle.std.proofs.Common.{◌≡◌, true, Some}
 use Rattle.campl_tree.specs.declared.place.Place.{Place}
 use Rattle.campl_tree.specs.declared.place.Ident.{Ident}
 use Rattle.campl_tree.specs.Plain.Process as b
 use Rattle.campl_tree.specs.Plain.Process.{Body}
 use Rattle.campl_tree.specs.Plain.Decl.{Program}
-use Rattle.campl_machine.specs.Names.{Path, Who, Process}
-use Rattle.campl_machine.specs.Machine.{performs}
-use Rattle.campl_types.specs.World.{World, world_of}
+use Rattle.campl_machine.specs.Names.{Path, Process}
+use Rattle.campl_types.specs.World.{world_of}
 use Rattle.campl_peel.specs.Terms.{Doing, is_plug}
-use Rattle.campl_meaning.specs.States.{Running, State, Runs}
-use Rattle.campl_meaning.specs.Wants.{wants}
-use Rattle.campl_meaning.specs.Reductions.{Configuration, Event, act_of, event_of, reduce_state}
+use Rattle.campl_meaning.specs.States.{Running, Runs}
+use Rattle.campl_meaning.specs.Reductions.{Configuration}
 use Rattle.campl_meaning.specs.Lawful.{Lawful}
 use Rattle.campl_meaning.specs.Kept.{Goes}
+use Rattle.campl_meaning.proofs.Steps.{performed}
 use Rattle.campl_kept_births.proofs.PeelStep.{peel-kept}
 use Rattle.campl_kept_births.proofs.SplitStep.{split-kept}
 use Rattle.campl_kept_births.proofs.ForkStep.{fork-kept}
-
-behind : (o : Option Configuration) (x : Event) (d : Configuration) (f : Event) → option_map {U = Event × Configuration} (λ (e : Configuration). (f, e)) o ≡ Some (x, d) → o ≡ Some d
-behind None x d f i = absurd (cc i)
-behind (Some e) x d f i =
-    let q : ◌≡◌ {A = Event × Configuration} (f, e) (x, d) = cc i in
-    ap (λ (z : Event × Configuration). Some z.1) q
-
--- a node that goes makes its step
-pub performed : (w : World) (c d : Configuration) (who : Who) (s : State) → c.nodes who ≡ Some s → Goes w c who d → (i : ℕ) × (performs c who (act_of w who s i) ≡ Some d)
-performed w c d who s is (event, (i, e)) =
-    let f : reduce_state w c who i (Some s) ≡ Some (event, d) = subst (λ o. reduce_state w c who i o ≡ Some (event, d)) is e in
-    (i, behind (performs c who (act_of w who s i)) event d (event_of c (wants w who s i)) f)
 
 module _ (source : Program) (c d : Configuration) (p : Path) (r : Running) (l : Lawful source c) (there : c.nodes (Process p) ≡ Some (Runs r)) (g : Goes (world_of source) c (Process p) d) where
   pub peel-goes : is_plug r.term ≡ true → Lawful source d

@@ -10,7 +10,9 @@ use Rattle.campl_meaning.specs.States.{Ends}
 use Rattle.campl_meaning.specs.Bodies.{without_end}
 use Rattle.campl_meaning.specs.Apart.{end_names}
 use Rattle.campl_peel.proofs.Terms.{found-those}
-use Rattle.campl_kept_births.proofs.Frame.{lists, or-first, or-second, or-split, some-is, and-both, not-true, lists-found}
+use Rattle.campl_types.proofs.Truth.{or-first, or-second, or-split, not-true}
+use Rattle.campl_peel.proofs.Standing.{and-both}
+use Rattle.campl_kept_births.proofs.Frame.{lists, some-is, lists-found}
 
 -- names differ, and so do ends
 pub record IsTidy (es : Ends) : Type 0 where

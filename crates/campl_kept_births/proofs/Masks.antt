@@ -7,7 +7,7 @@ use Rattle.campl_machine.proofs.Updates.{split}
 use Rattle.campl_machine.proofs.Shapes.{removal}
 use Rattle.campl_meaning.specs.States.{Message, Word, Pick, EndPair}
 use Rattle.campl_meaning.specs.Reductions.{Configuration}
-use Rattle.campl_meaning.specs.Apart.{Place, At, In, Gone, IsCarried, Node, Holder, Pair, owes_pair, node_of, graph}
+use Rattle.campl_meaning.specs.Apart.{Place, At, In, Gone, Node, Holder, Pair, owes_pair, node_of, graph}
 
 pub ends-apart : TellsApart same_end
 ends-apart = record { is = same_end-is; own = same_end-refl }
@@ -97,20 +97,8 @@ nodes-apart = record { is = node-is; own = node-own }
 
 -- Pairs in lists of messages
 
-pub pair-there : (ms : List Message) → owes_pair ms ≡ true → (before : List Message) × (a : End) × (b : End) × (after : List Message) × (ms ≡ before ++ (EndPair a b ∷ after))
-pair-there [] i = absurd (let no : false ≡ true = i in cc no)
-pair-there (Word v ∷ ms) i = let (before, a, b, after, j) = pair-there ms i in (Word v ∷ before, a, b, after, ap (λ (z : List Message). Word v ∷ z) j)
-pair-there (Pick n ∷ ms) i = let (before, a, b, after, j) = pair-there ms i in (Pick n ∷ before, a, b, after, ap (λ (z : List Message). Pick n ∷ z) j)
-pair-there (EndPair f g ∷ ms) i = ([], f, g, ms, refl)
-
 pub owes-last : (ms : List Message) (a b : End) → owes_pair (ms ++ (EndPair a b ∷ [])) ≡ true
 owes-last [] a b = refl
 owes-last (Word v ∷ ms) a b = owes-last ms a b
 owes-last (Pick n ∷ ms) a b = owes-last ms a b
 owes-last (EndPair f g ∷ ms) a b = refl
-
-pub carried-owes : (ms : List Message) (e : End) → IsCarried ms e → owes_pair ms ≡ true
-carried-owes [] e i = absurd i
-carried-owes (Word v ∷ ms) e i = carried-owes ms e i
-carried-owes (Pick n ∷ ms) e i = carried-owes ms e i
-carried-owes (EndPair f g ∷ ms) e i = refl

@@ -1,13 +1,10 @@
 -- The numbers in a child's path, and in the ends of channels that are born with it.
-use Rattle.std.proofs.Common.{◌≡◌, ◌≢◌, ◌⊎◌, ◌∙◌, inl, inr, refl, sym, ap, ap₂, subst, ℕ, ◌≤◌, arith, true, false, [], ◌∷◌, ◌++◌, Option, Some, None}
+use Rattle.std.proofs.Common.{◌≡◌, ◌≢◌, ◌⊎◌, ◌∙◌, inl, inr, refl, sym, ap, ap₂, subst, ℕ, ◌≤◌, true, false, [], ◌∷◌, ◌++◌, Option, Some, None}
 use Rattle.campl_machine.specs.Names.{Birth, Path, End, same_birth, same_path}
 use Rattle.campl_machine.proofs.Same.{same_birth-is, same_birth-refl, same_path-is, same_path-refl}
 use Rattle.campl_machine.proofs.Updates.{split}
 use Rattle.campl_meaning.specs.Apart.{IsAtMost, number_after, number_in_end}
-
-pub at-most : (o : Option ℕ) (m n : ℕ) → m ≤ n → IsAtMost o m → IsAtMost o n
-at-most None m n h a = tt
-at-most (Some k) m n h a = omega arith
+use Rattle.campl_meaning.proofs.Independent.{number-of-child}
 
 pub of-none : (o : Option ℕ) (n : ℕ) → o ≡ None → IsAtMost o n
 of-none None n e = tt
@@ -18,11 +15,6 @@ of-some o k n e h = subst (λ z. IsAtMost z n) (sym e) h
 
 pub some-at-most : (o : Option ℕ) (k n : ℕ) → o ≡ Some k → IsAtMost o n → k ≤ n
 some-at-most o k n e h = subst (λ z. IsAtMost z n) e h
-
--- a child's path is longer than its parent's, and goes on with the step
-pub number-of-child : (p : Path) (x : Birth) → number_after p (p ++ (x ∷ [])) ≡ Some x.step
-number-of-child [] x = refl
-number-of-child (y ∷ p) x = rw (same_birth-refl y) (number-of-child p x)
 
 none-after-empty : (q : Path) → number_after q [] ≡ None
 none-after-empty [] = refl

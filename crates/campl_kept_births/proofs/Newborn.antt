@@ -15,13 +15,14 @@ use Rattle.campl_types.specs.Held.{On}
 use Rattle.campl_types.specs.SameType.{bare_chan}
 use Rattle.campl_types.specs.Views.{turned}
 use Rattle.campl_types.proofs.Turned.{view-turned}
+use Rattle.campl_meaning.proofs.Independent.{number-of-child}
 use Rattle.campl_meaning.specs.States.{Running, State, Runs}
 use Rattle.campl_meaning.specs.Wants.{born, child, half_on}
 use Rattle.campl_meaning.specs.Reductions.{Configuration}
 use Rattle.campl_meaning.specs.Views.{view_in, TakesAll}
 use Rattle.campl_meaning.specs.Apart.{At, IsJoined}
 use Rattle.campl_meaning.specs.Lawful.{Channels, seen, Agree, Lawful}
-use Rattle.campl_kept_births.proofs.Naming.{longer, number-of-child, some-at-most, some-or-none, in-end-own}
+use Rattle.campl_kept_births.proofs.Naming.{longer, some-at-most, some-or-none, in-end-own}
 
 -- Halves
 

@@ -27,10 +27,12 @@ use Rattle.campl_meaning.specs.Views.{view_in}
 use Rattle.campl_meaning.specs.Apart.{Place, At, IsJoined, Holder, node_of, graph}
 use Rattle.campl_meaning.specs.Lawful.{Channels, IsTypedAt, Agree, Lawful}
 use Rattle.campl_peel.proofs.Terms.{term-peels, ends-with}
+use Rattle.campl_types.proofs.Truth.{not-true}
 use Rattle.campl_kept_births.proofs.Naming.{some-or-none}
 use Rattle.campl_kept_births.proofs.Listed.{IsTidy, found-kept, found-still, not-kept, found-more, lists-first, lists-more, lists-later, tidy-those, tidy-more}
 use Rattle.campl_meaning.proofs.Finite.{finite-of, finite-kept}
-use Rattle.campl_kept_births.proofs.Frame.{some-is, lists, lists-found, found-listed, not-true, same-held, agree-same, agree-turned, settled, Hands, at-other, at-own, at-kin, lawful-after}
+use Rattle.campl_meaning.proofs.Agreeing.{agree-turned}
+use Rattle.campl_kept_births.proofs.Frame.{some-is, lists, lists-found, found-listed, same-held, agree-same, settled, Hands, at-other, at-own, at-kin, lawful-after}
 use Rattle.campl_kept_births.proofs.Masks.{ends-apart, masked, standing-some, standing-none, mask, unmask, at-holder, node-at}
 use Rattle.campl_kept_births.proofs.Newborn.{halves-differ, born-differ, wire, born-fresh, born-idle, not-born, own-place, no-child-yet, child-not, family, parent-there, child-there, others-there, new-agree}
 

@@ -37,11 +37,13 @@ use Rattle.campl_meaning.specs.Reductions.{Configuration, act_of}
 use Rattle.campl_meaning.specs.Views.{view_in, view_of, TakesAll, taken_at}
 use Rattle.campl_meaning.specs.Apart.{Place, At, In, Gone, IsCarried, IsJoined, Holder, Pair, owes_pair, node_of, graph}
 use Rattle.campl_meaning.specs.Lawful.{Channels, seen, IsTypedAt, IsPairOf, Agree, Lawful}
+use Rattle.campl_meaning.proofs.Agreeing.{agree-turned}
+use Rattle.campl_meaning.proofs.Pairs.{pair-or-none}
 use Rattle.campl_kept_births.proofs.Naming.{some-or-none}
 use Rattle.campl_kept_births.proofs.Listed.{IsTidy, found-more, found-without, still-without, lists-first, lists-more, lists-later, tidy-more, tidy-without}
 use Rattle.campl_kept_births.proofs.Bare.{IsSplitAt, split-at}
-use Rattle.campl_kept_births.proofs.Frame.{some-is, lists, lists-found, found-listed, agree-same, agree-turned, carries, settled, Hands, at-other, at-own, lawful-after}
-use Rattle.campl_kept_births.proofs.Masks.{ends-apart, masked, standing-some, standing-none, mask, unmask, node-at, node-in, node-gone, node-nowhere, pair-there}
+use Rattle.campl_kept_births.proofs.Frame.{some-is, lists, lists-found, found-listed, agree-same, carries, settled, Hands, at-other, at-own, lawful-after}
+use Rattle.campl_kept_births.proofs.Masks.{ends-apart, masked, standing-some, standing-none, mask, unmask, node-at, node-in, node-gone, node-nowhere}
 use Rattle.campl_kept_births.proofs.Newborn.{own-place, parent-there}
 use Rattle.campl_types.proofs.Bare.{bare-chan-twice}
 
@@ -469,11 +471,9 @@ module _ (source : Program) (c : Configuration) (l : Lawful source c) (p : Path)
   place2 = settled p r r2 None remains
 
   no-pair : owes_pair (c.owed end) ≡ false
-  no-pair = elim (split (owes_pair (c.owed end))) [
-    | inl i ↦
-        let (before, m, n, after, k) = pair-there (c.owed end) i in
-        absurd (let g : l.place end ≡ Gone = (l.pairs.given_up end m n before after k).0 in cc (g, end-place))
-    | inr i ↦ i
+  no-pair = elim (pair-or-none (c.owed end)) [
+    | inl i ↦ i
+    | inr h ↦ absurd (let g : l.place end ≡ Gone = (l.pairs.given_up end h.one h.other h.before h.after h.is).0 in cc (g, end-place))
   ]
 
   not-listed : (e : End) → l.place e ≢ At (Process p) → l.place e ≢ In other → lists e r2.ends ≡ false

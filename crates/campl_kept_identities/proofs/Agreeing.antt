@@ -8,18 +8,11 @@ use Rattle.campl_meaning.specs.States.{Message, EndPair}
 use Rattle.campl_meaning.specs.Reductions.{Configuration}
 use Rattle.campl_meaning.specs.Views.{TakesAll}
 use Rattle.campl_meaning.specs.Lawful.{Channels, seen, Agree, IsPairOf}
+use Rattle.campl_meaning.proofs.Agreeing.{agree-turned}
 use Rattle.campl_kept_identities.proofs.Takes.{one-side-takes, takes-both}
 use Rattle.campl_kept_identities.proofs.Pairs.{not-empty}
 
 module _ (w : World) (channel : Channels) where
-  -- partners agree both ways
-  pub agree-turned : (c : Configuration) (e f : End) → Agree w c channel e f → Agree w c channel f e
-  agree-turned c e f a = record {
-    left = turned a.left;
-    mine = a.yours;
-    yours = subst (λ (z : View). TakesAll w (seen channel e) (c.owed f) z) (sym (turned-twice a.left)) a.mine;
-  }
-
   -- part 3 speaks of what the two owe alone
   pub agree-kept : (c d : Configuration) (e f : End) → d.owed e ≡ c.owed e → d.owed f ≡ c.owed f → Agree w c channel e f → Agree w d channel e f
   agree-kept c d e f oe of a = record {
@@ -61,7 +54,7 @@ module _ (w : World) (channel : Channels) where
     pub far-agree : (d : Configuration) → d.owed x2 ≡ c.owed y ++ c.owed x2 → d.owed y2 ≡ c.owed x ++ c.owed y2 → Agree w d channel x2 y2
     far-agree d ox oy = elim (one-empty c x y x2 y2 a k is) [
       | inl n ↦ one-way c d x y x2 y2 a k is n ox oy
-      | inr n ↦ agree-turned d y2 x2 (one-way c d y x y2 x2 k a back n oy ox)
+      | inr n ↦ agree-turned w d channel y2 x2 (one-way c d y x y2 x2 k a back n oy ox)
     ]
 
     -- a pair that x2 owes comes to y2 at the same receipt, behind what y owed

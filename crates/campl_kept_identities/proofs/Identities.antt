@@ -1,13 +1,13 @@
 -- In a lawful configuration an identity may happen, and keeps the configuration lawful.
-use Rattle.std.proofs.Common.{◌≡◌, ◌≢◌, ℕ, Bool, [], inl, inr, refl, sym, ap, subst, ◌∙◌, Option, Some, None, option_map, true≢false}
+use Rattle.std.proofs.Common.{◌≡◌, ◌≢◌, ℕ, Bool, [], inl, inr, refl, sym, ap, subst, ◌∙◌, Option, Some, None, true≢false}
 use Rattle.campl_tree.specs.declared.place.Place.{Place}
 use Rattle.campl_tree.specs.declared.place.Ident.{Ident}
 use Rattle.campl_tree.specs.Plain.Process as b
 use Rattle.campl_tree.specs.Plain.Decl.{Program}
-use Rattle.campl_machine.specs.Names.{Path, End, Who, Process}
+use Rattle.campl_machine.specs.Names.{Path, End, Process}
 use Rattle.campl_machine.specs.Machine.{Act, Links, linked, Does, performs}
 use Rattle.campl_machine.specs.Graph.{Leads}
-use Rattle.campl_machine.proofs.Performs.{does_of, of_does}
+use Rattle.campl_machine.proofs.Performs.{of_does}
 use Rattle.campl_types.specs.Names.{Name, same_name, found}
 use Rattle.campl_types.specs.World.{World, world_of}
 use Rattle.campl_types.specs.Held.{Channel, On, Held}
@@ -16,36 +16,18 @@ use Rattle.campl_types.specs.Views.{turned}
 use Rattle.campl_types.proofs.Names.{same-itself, split-names}
 use Rattle.campl_peel.specs.Terms.{TermIsWellFormed, held_ends}
 use Rattle.campl_meaning.specs.States.{Message, Ends, Running, State, Runs, Link}
-use Rattle.campl_meaning.specs.Wants.{wants, with_found, next_command, term_command}
-use Rattle.campl_meaning.specs.Reductions.{Configuration, Event, act_of, event_of, reduce_state}
+use Rattle.campl_meaning.specs.Wants.{with_found, next_command, term_command}
+use Rattle.campl_meaning.specs.Reductions.{Configuration, act_of}
 use Rattle.campl_meaning.specs.Apart.{Place as PlaceOf, At, IsJoined, Holder, graph, node_of}
 use Rattle.campl_meaning.specs.Views.{view_in}
 use Rattle.campl_meaning.specs.Lawful.{Channels, IsTypedAt, Lawful}
 use Rattle.campl_meaning.specs.Kept.{Goes}
 use Rattle.campl_meaning.specs.Ends.{NeverActs, IsBrokenAt}
+use Rattle.campl_meaning.proofs.Steps.{does-of-goes, goes-of}
 use Rattle.campl_kept_identities.specs.Identities.{IsIdentityAt}
 use Rattle.campl_kept_identities.proofs.Takes.{joined-views}
 use Rattle.campl_kept_identities.proofs.Around.{around}
 use Rattle.campl_kept_identities.proofs.Links.{IsIdentity, linked-lawful}
-
--- Reductions as steps of the machine
-
-behind : (o : Option Configuration) (x : Event) (d : Configuration) (f : Event) → option_map {U = Event × Configuration} (λ (e : Configuration). (f, e)) o ≡ Some (x, d) → o ≡ Some d
-behind None x d f i = absurd (cc i)
-behind (Some e) x d f i =
-    let q : ◌≡◌ {A = Event × Configuration} (f, e) (x, d) = cc i in
-    ap (λ (z : Event × Configuration). Some z.1) q
-
--- what a node that is there does
-pub does-of-goes : (w : World) (c d : Configuration) (who : Who) (s : State) → c.nodes who ≡ Some s → Goes w c who d → (i : ℕ) × Does c who (act_of w who s i) d
-does-of-goes w c d who s is (x, (i, f)) =
-    let g : reduce_state w c who i (Some s) ≡ Some (x, d) = subst (λ (o : Option State). reduce_state w c who i o ≡ Some (x, d)) is f in
-    (i, does_of c who (act_of w who s i) d (behind (performs c who (act_of w who s i)) x d _ g))
-
-pub goes-of-does : (w : World) (c d : Configuration) (who : Who) (s : State) (i : ℕ) → c.nodes who ≡ Some s → Does c who (act_of w who s i) d → Goes w c who d
-goes-of-does w c d who s i is e =
-    let f : performs c who (act_of w who s i) ≡ Some d = of_does c who (act_of w who s i) d e in
-    (event_of c (wants w who s i), (i, rw (is, f) refl))
 
 -- An end under a name
 
@@ -166,7 +148,7 @@ module _ (source : Program) (c : Configuration) (l : Lawful source c) (p : Path)
       let (e, f, e2, f2, h) = has-ends in
       let done : Configuration = linked c (Process p) e f e2 f2 in
       let step : Does c (Process p) (Links e f) done = (e2, f2, h.identity.partner_x, h.identity.partner_y, h.identity.two_ends, h.identity.two_channels, refl) in
-      (done, goes-of-does w c done (Process p) (Runs r) 0 k.there (subst (λ (a : Act State Message). Does c (Process p) a done) (sym (links 0 e f h.first h.second)) step))
+      (done, goes-of w c done (Process p) (Runs r) 0 k.there (subst (λ (a : Act State Message). Does c (Process p) a done) (sym (links 0 e f h.first h.second)) step))
 
   does-kept : (d : Configuration) (i : ℕ) → Does c (Process p) (act_of w (Process p) (Runs r) i) d → Lawful source d
   does-kept d i g =

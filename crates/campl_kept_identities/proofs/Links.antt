@@ -18,10 +18,12 @@ use Rattle.campl_meaning.specs.States.{Message, EndPair, State, Runs, Serves}
 use Rattle.campl_meaning.specs.Reductions.{Configuration}
 use Rattle.campl_meaning.specs.Apart.{Place, At, In, Gone, IsCarried, IsJoined, IsHeldBy, IsServedBy, IsPlaced, IsNamed, Node, Holder, Pair, node_of, graph, owes_pair}
 use Rattle.campl_meaning.specs.Lawful.{seen, Agree, IsPairOf, AreLastPairs, Lawful}
-use Rattle.campl_kept_identities.proofs.Pairs.{HasPair, the-pair, LiesBehind, pair-behind, owes-behind, carried-after, carried-behind, none-carried, not-empty}
+use Rattle.campl_meaning.proofs.Agreeing.{agree-turned}
+use Rattle.campl_meaning.proofs.Pairs.{HasPair, the-pair, carried-right, none-carried}
+use Rattle.campl_kept_identities.proofs.Pairs.{LiesBehind, pair-behind, owes-behind, carried-behind, not-empty}
 use Rattle.campl_kept_identities.proofs.Places.{forgets, stays-at, stays-in, stays-gone, stays-own, stood-at, stood-in, was-given-up}
 use Rattle.campl_kept_identities.proofs.Around.{Went, Stayed, Left, FarX, FarY, Kept, IsAround}
-use Rattle.campl_kept_identities.proofs.Agreeing.{agree-turned, agree-kept, far-agree, far-pair}
+use Rattle.campl_kept_identities.proofs.Agreeing.{agree-kept, far-agree, far-pair}
 
 -- the process p has the two ends x and y of an identity, and no other that may be used
 pub record IsIdentity (source : Program) (c : Configuration) (l : Lawful source c) (p : Who) (x y x2 y2 : End) : Type 0 where
@@ -124,8 +126,8 @@ module _ (source : Program) (c d : Configuration) (l : Lawful source c) (p : Who
       | inl q ↦ none-carried (c.owed x) e no-pair-x (subst (λ (v : End). IsCarried (c.owed v) e) (sym q) h)
       | inr q ↦ none-carried (c.owed y) e no-pair-y (subst (λ (v : End). IsCarried (c.owed v) e) (sym q) h)
     ])
-    | FarX a j o ↦ subst (λ (ms : List Message). IsCarried ms e) (sym o) (carried-after (c.owed y) (c.owed x2) e (subst (λ (v : End). IsCarried (c.owed v) e) (sym a) h))
-    | FarY a j o ↦ subst (λ (ms : List Message). IsCarried ms e) (sym o) (carried-after (c.owed x) (c.owed y2) e (subst (λ (v : End). IsCarried (c.owed v) e) (sym a) h))
+    | FarX a j o ↦ subst (λ (ms : List Message). IsCarried ms e) (sym o) (carried-right (c.owed y) (c.owed x2) e (subst (λ (v : End). IsCarried (c.owed v) e) (sym a) h))
+    | FarY a j o ↦ subst (λ (ms : List Message). IsCarried ms e) (sym o) (carried-right (c.owed x) (c.owed y2) e (subst (λ (v : End). IsCarried (c.owed v) e) (sym a) h))
     | Kept a j o ↦ subst (λ (ms : List Message). IsCarried ms e) (sym o) h
   ]
 
@@ -237,7 +239,7 @@ module _ (source : Program) (c d : Configuration) (l : Lawful source c) (p : Who
         subst (λ (z : End). Agree w d l.channel z f) a (subst (λ (z : End). Agree w d l.channel x2 z) q new-agree)
     | FarY a j o ↦
         let q : x2 ≡ f = cc (i, j) in
-        subst (λ (z : End). Agree w d l.channel z f) a (subst (λ (z : End). Agree w d l.channel y2 z) q (agree-turned w l.channel d x2 y2 new-agree))
+        subst (λ (z : End). Agree w d l.channel z f) a (subst (λ (z : End). Agree w d l.channel y2 z) q (agree-turned w d l.channel x2 y2 new-agree))
     | Kept a j o ↦ agree-kept w l.channel c d e f o (kept-too e f a i) (l.agree e f (sym j ∙ i))
   ]
 

@@ -1,5 +1,5 @@
 -- Pairs of ends in lists of messages.
-use Rattle.std.proofs.Common.{◌≡◌, true, false, List, [], ◌∷◌, ◌++◌, inr, refl, sym, ap, subst, true≢false}
+use Rattle.std.proofs.Common.{◌≡◌, false, List, [], ◌∷◌, ◌++◌, refl, ap, subst, true≢false}
 use Rattle.campl_machine.specs.Names.{End}
 use Rattle.campl_meaning.specs.States.{Message, Word, Pick, EndPair}
 use Rattle.campl_meaning.specs.Apart.{IsCarried, owes_pair}
@@ -11,40 +11,11 @@ owes-behind (Word v ∷ ms) ns i = owes-behind ms ns i
 owes-behind (Pick n ∷ ms) ns i = owes-behind ms ns i
 owes-behind (EndPair f g ∷ ms) ns i = absurd (true≢false i)
 
-pub carried-after : (ms ns : List Message) (e : End) → IsCarried ns e → IsCarried (ms ++ ns) e
-carried-after [] ns e h = h
-carried-after (Word v ∷ ms) ns e h = carried-after ms ns e h
-carried-after (Pick n ∷ ms) ns e h = carried-after ms ns e h
-carried-after (EndPair f g ∷ ms) ns e h = inr (inr (carried-after ms ns e h))
-
 pub carried-behind : (ms ns : List Message) (e : End) → owes_pair ms ≡ false → IsCarried (ms ++ ns) e → IsCarried ns e
 carried-behind [] ns e i h = h
 carried-behind (Word v ∷ ms) ns e i h = carried-behind ms ns e i h
 carried-behind (Pick n ∷ ms) ns e i h = carried-behind ms ns e i h
 carried-behind (EndPair f g ∷ ms) ns e i h = absurd (true≢false i)
-
-pub none-carried : (ms : List Message) (e : End) → owes_pair ms ≡ false → IsCarried ms e → ⊥
-none-carried [] e i h = h
-none-carried (Word v ∷ ms) e i h = none-carried ms e i h
-none-carried (Pick n ∷ ms) e i h = none-carried ms e i h
-none-carried (EndPair f g ∷ ms) e i h = true≢false i
-
--- a pair in a list
-pub record HasPair (ms : List Message) : Type 0 where
-  pub before : List Message
-  pub one : End
-  pub other : End
-  pub after : List Message
-  pub is : ms ≡ before ++ (EndPair one other ∷ after)
-
-one-more : (m : Message) (ms : List Message) → HasPair ms → HasPair (m ∷ ms)
-one-more m ms h = record { before = m ∷ h.before; one = h.one; other = h.other; after = h.after; is = ap (λ (z : List Message). m ∷ z) h.is }
-
-pub the-pair : (ms : List Message) → owes_pair ms ≡ true → HasPair ms
-the-pair [] i = absurd (true≢false (sym i))
-the-pair (Word v ∷ ms) i = one-more (Word v) ms (the-pair ms i)
-the-pair (Pick n ∷ ms) i = one-more (Pick n) ms (the-pair ms i)
-the-pair (EndPair f g ∷ ms) i = record { before = []; one = f; other = g; after = ms; is = refl }
 
 -- a pair that isn't in the first of two lists is in the second
 pub record LiesBehind (ms ns before : List Message) (a b : End) (after : List Message) : Type 0 where

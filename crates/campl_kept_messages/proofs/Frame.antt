@@ -14,9 +14,8 @@ use Rattle.campl_types.proofs.Names.{split-names, same-itself}
 use Rattle.campl_types.specs.SameType.{bare_chan}
 use Rattle.campl_types.specs.World.{World, world_of}
 use Rattle.campl_types.specs.Polarity.{Splits}
-use Rattle.campl_types.specs.Views.{View, turned, deed_of}
+use Rattle.campl_types.specs.Views.{View, deed_of}
 use Rattle.campl_types.specs.Held.{Channel, On, with}
-use Rattle.campl_types.proofs.Turned.{turned-twice}
 use Rattle.campl_service.specs.declared.phase.Phase.{Phase}
 use Rattle.campl_service.specs.declared.phase.Phase.TheVariants as phase
 use Rattle.campl_peel.specs.Terms.{TermIsWellFormed, held_ends}
@@ -25,6 +24,7 @@ use Rattle.campl_meaning.specs.Reductions.{Configuration}
 use Rattle.campl_meaning.specs.Views.{view_in, TakesAll}
 use Rattle.campl_meaning.specs.Apart.{Place, At, In, Gone, IsCarried, IsJoined, IsApart}
 use Rattle.campl_meaning.specs.Lawful.{Channels, seen, IsTypedAt, Agree, IsPairOf, IsInPhase, phase_type, service_side, Lawful}
+use Rattle.campl_meaning.proofs.Agreeing.{agree-turned}
 use Rattle.campl_kept_messages.proofs.Stays.{gone_on, from}
 use Rattle.campl_kept_messages.proofs.Letters.{carried-first, carried-second}
 
@@ -62,9 +62,6 @@ held-other e new channel es off = fun_ext (λ y. go y (found y es) refl)
     go y (Some a) h = rw h (new-other e new channel a (off y a h))
 
 -- Partners
-
-pub agree-turned : (w : World) (c : Configuration) (channel : Channels) (e f : End) → Agree w c channel e f → Agree w c channel f e
-agree-turned w c channel e f a = record { left = turned a.left; mine = a.yours; yours = subst (λ z. TakesAll w (seen channel e) (c.owed f) z) (sym (turned-twice a.left)) a.mine }
 
 module _ (w : World) (c d : Configuration) (channel channel2 : Channels) where
   pub agree-kept : (e f : End) → channel2 e ≡ channel e → channel2 f ≡ channel f → d.owed e ≡ c.owed e → d.owed f ≡ c.owed f → Agree w c channel e f → Agree w d channel2 e f

@@ -1,38 +1,23 @@
 -- The reductions of services, and those of processes that send or take a message without ends, keep a configuration lawful.
-use Rattle.std.proofs.Common.{◌≡◌, ℕ, refl, ap, subst, Option, Some, None, option_map}
+use Rattle.std.proofs.Common.{◌≡◌, ℕ, subst, Some}
 use Rattle.campl_tree.specs.Plain.Process as b
 use Rattle.campl_tree.specs.Plain.Process.{Body}
 use Rattle.campl_tree.specs.Plain.Decl.{Program}
-use Rattle.campl_machine.specs.Names.{Path, Who, Process, Service}
-use Rattle.campl_machine.specs.Machine.{Does, performs}
-use Rattle.campl_machine.proofs.Performs.{does_of}
-use Rattle.campl_types.specs.World.{World, world_of}
+use Rattle.campl_machine.specs.Names.{Path, Process, Service}
+use Rattle.campl_machine.specs.Machine.{Does}
+use Rattle.campl_types.specs.World.{world_of}
 use Rattle.campl_peel.specs.Terms.{Doing}
 use Rattle.campl_meaning.specs.States.{Running, State, Runs, Serves}
-use Rattle.campl_meaning.specs.Reductions.{Configuration, Event, act_of, event_of, reduce_state}
-use Rattle.campl_meaning.specs.Wants.{wants}
+use Rattle.campl_meaning.specs.Reductions.{Configuration, act_of}
 use Rattle.campl_meaning.specs.Kept.{Goes}
 use Rattle.campl_meaning.specs.Lawful.{Lawful}
+use Rattle.campl_meaning.proofs.Steps.{goes-does}
 use Rattle.campl_kept_messages.specs.Passing.{PassesLetter}
 use Rattle.campl_kept_messages.proofs.Processes.{put-lawful, get-lawful, hput-lawful, hcase-lawful}
 use Rattle.campl_kept_messages.proofs.Services.{service-lawful}
 
-behind : (o : Option Configuration) (x f : Event) (d : Configuration) → option_map {U = Event × Configuration} (λ (e : Configuration). (f, e)) o ≡ Some (x, d) → o ≡ Some d
-behind None x f d i = absurd (cc i)
-behind (Some e) x f d i =
-    let q : ◌≡◌ {A = Event × Configuration} (f, e) (x, d) = cc i in
-    ap (λ (z : Event × Configuration). Some z.1) q
-
--- what goes is there, and does what it wants
-pub goes-does : (w : World) (c : Configuration) (who : Who) (d : Configuration) → Goes w c who d → (s : State) × (i : ℕ) × (c.nodes who ≡ Some s) × Does c who (act_of w who s i) d
-goes-does w c who d (x, (i, e)) = go (c.nodes who) refl e
-  where
-    go : (o : Option State) → c.nodes who ≡ o → reduce_state w c who i o ≡ Some (x, d) → (s : State) × (i : ℕ) × (c.nodes who ≡ Some s) × Does c who (act_of w who s i) d
-    go None is f = absurd (cc f)
-    go (Some s) is f = (s, i, is, does_of c who (act_of w who s i) d (behind (performs c who (act_of w who s i)) x (event_of c (wants w who s i)) d f))
-
 pub services-kept : (source : Program) (c d : Configuration) (n : ℕ) → Lawful source c → Goes (world_of source) c (Service n) d → Lawful source d
-services-kept source c d n l g = let (s, i, is, does) = goes-does (world_of source) c (Service n) d g in go s i is does
+services-kept source c d n l g = let (s, i, is, does) = goes-does (world_of source) c d (Service n) g in go s i is does
   where
     go : (s : State) (i : ℕ) → c.nodes (Service n) ≡ Some s → Does c (Service n) (act_of (world_of source) (Service n) s i) d → Lawful source d
     go (Serves a) i is does = service-lawful source c l n a is d i does
@@ -41,7 +26,7 @@ services-kept source c d n l g = let (s, i, is, does) = goes-does (world_of sour
 pub letters-kept : (source : Program) (c d : Configuration) (p : Path) (r : Running) (body : Body) → Lawful source c → c.nodes (Process p) ≡ Some (Runs r)
     → r.term ≡ Doing body → PassesLetter body → Goes (world_of source) c (Process p) d → Lawful source d
 letters-kept source c d p r body l is term passes g =
-    let (s, i, there, does) = goes-does (world_of source) c (Process p) d g in
+    let (s, i, there, does) = goes-does (world_of source) c d (Process p) g in
     let same : s ≡ Runs r = cc (there, is) in
     go body i passes term (subst (λ t. Does c (Process p) (act_of (world_of source) (Process p) t i) d) same does)
   where

@@ -1,5 +1,5 @@
 -- Messages without ends: sending or taking one leaves the pairs of ends that are owed.
-use Rattle.std.proofs.Common.{◌≡◌, ◌≢◌, true, false, List, [], ◌∷◌, ◌++◌, ◌⊎◌, inl, inr, refl, sym, ap, subst, Some}
+use Rattle.std.proofs.Common.{◌≡◌, ◌≢◌, true, List, [], ◌∷◌, ◌++◌, inl, inr, refl, sym, ap, subst, Some}
 use Rattle.campl_machine.specs.Names.{End, same_end}
 use Rattle.campl_machine.specs.Machine.{sent, taken}
 use Rattle.campl_machine.proofs.Updates.{split}
@@ -8,6 +8,7 @@ use Rattle.campl_machine.proofs.Ends.{apart}
 use Rattle.campl_meaning.specs.States.{Message, Word, Pick, EndPair}
 use Rattle.campl_meaning.specs.Reductions.{Configuration}
 use Rattle.campl_meaning.specs.Apart.{IsCarried, owes_pair}
+use Rattle.campl_meaning.proofs.Pairs.{carried-left}
 use Rattle.campl_kept_messages.proofs.Stays.{SamePairs}
 
 abbrev pub IsLetter : Message → Type 0
@@ -29,19 +30,6 @@ carried-second (Word v ∷ ms) after a b = carried-second ms after a b
 carried-second (Pick n ∷ ms) after a b = carried-second ms after a b
 carried-second (EndPair e f ∷ ms) after a b = inr (inr (carried-second ms after a b))
 
--- the pairs of a list are told by where they stand
-abbrev pub HasPair : List Message → Type 0
-HasPair ms = (before : List Message) × (a : End) × (b : End) × (after : List Message) × (ms ≡ before ++ (EndPair a b ∷ after))
-
-one-before : (m : Message) (ms : List Message) → HasPair ms → HasPair (m ∷ ms)
-one-before m ms (before, a, b, after, e) = (m ∷ before, a, b, after, ap (λ ns. m ∷ ns) e)
-
-pub pair-there : (ms : List Message) → (owes_pair ms ≡ false) ⊎ HasPair ms
-pair-there [] = inl refl
-pair-there (Word v ∷ ms) = elim (pair-there ms) [ inl i ↦ inl i | inr h ↦ inr (one-before (Word v) ms h) ]
-pair-there (Pick n ∷ ms) = elim (pair-there ms) [ inl i ↦ inl i | inr h ↦ inr (one-before (Pick n) ms h) ]
-pair-there (EndPair e f ∷ ms) = inr ([], e, f, ms, refl)
-
 -- A letter behind others
 
 letter-behind : (ms : List Message) (m : Message) (x : End) → IsLetter m → IsCarried (ms ++ (m ∷ [])) x → IsCarried ms x
@@ -53,14 +41,6 @@ letter-behind (Pick n ∷ ms) m x l h = letter-behind ms m x l h
 letter-behind (EndPair e f ∷ ms) m x l (inl h) = inl h
 letter-behind (EndPair e f ∷ ms) m x l (inr (inl h)) = inr (inl h)
 letter-behind (EndPair e f ∷ ms) m x l (inr (inr h)) = inr (inr (letter-behind ms m x l h))
-
-more-behind : (ms ns : List Message) (x : End) → IsCarried ms x → IsCarried (ms ++ ns) x
-more-behind [] ns x h = absurd h
-more-behind (Word v ∷ ms) ns x h = more-behind ms ns x h
-more-behind (Pick n ∷ ms) ns x h = more-behind ms ns x h
-more-behind (EndPair e f ∷ ms) ns x (inl h) = inl h
-more-behind (EndPair e f ∷ ms) ns x (inr (inl h)) = inr (inl h)
-more-behind (EndPair e f ∷ ms) ns x (inr (inr h)) = inr (inr (more-behind ms ns x h))
 
 owes-behind : (ms : List Message) (m : Message) → IsLetter m → owes_pair (ms ++ (m ∷ [])) ≡ owes_pair ms
 owes-behind [] (Word v) l = refl
@@ -117,7 +97,7 @@ module _ (c : Configuration) (e : End) where
   send-pairs f m pe l = record {
     unpaired = λ z pz. sent-other m z (λ i. cc (pe, pz, i));
     carried_to = λ z x h. elim (split (same_end e z)) [
-      | inl i ↦ rw i (more-behind (c.owed z) (m ∷ []) x h)
+      | inl i ↦ rw i (carried-left (c.owed z) (m ∷ []) x h)
       | inr i ↦ rw i h
     ];
     carried_from = λ z x h. elim (split (same_end e z)) [

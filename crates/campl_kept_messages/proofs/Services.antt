@@ -34,7 +34,8 @@ use Rattle.campl_meaning.specs.Views.{view_of, view_in, Takes, TakesAll}
 use Rattle.campl_meaning.specs.Apart.{At, Gone, IsJoined, owes_pair}
 use Rattle.campl_meaning.specs.Lawful.{seen, Agree, IsInPhase, own_chan, taking, sending, service_side, phase_type, Lawful}
 use Rattle.campl_kept_messages.proofs.Stays.{gone_on, given_up_at, other-place, closes}
-use Rattle.campl_kept_messages.proofs.Letters.{pair-there, take-pairs}
+use Rattle.campl_meaning.proofs.Pairs.{pair-or-none}
+use Rattle.campl_kept_messages.proofs.Letters.{take-pairs}
 use Rattle.campl_kept_messages.proofs.Frame.{renewed, new-here}
 use Rattle.campl_kept_messages.proofs.Passing.{MaySend, MayTake, IsChoice, may-put, may-get, may-offer, send-lawful, take-lawful, take-lawful-at}
 use Rattle.campl_types.specs.Values.{IsValue}
@@ -168,10 +169,10 @@ module _ (source : Program) (c : Configuration) (l : Lawful source c) (n : ℕ) 
 
     -- and is closed
     no-pair : owes_pair (c.owed a.end) ≡ false
-    no-pair = elim (pair-there (c.owed a.end)) [
+    no-pair = elim (pair-or-none (c.owed a.end)) [
       | inl i ↦ i
       | inr h ↦
-          let g = l.pairs.given_up a.end h.1 h.2 h.0 h.3 h.4 in
+          let g = l.pairs.given_up a.end h.one h.other h.before h.after h.is in
           let k : At (Service n) ≡ Gone = sym stands.0 ∙ g.0 in
           absurd (cc k)
     ]

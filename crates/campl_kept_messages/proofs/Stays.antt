@@ -1,5 +1,5 @@
 -- After a step of one process or service that holds what it held, things stand apart as they stood.
-use Rattle.std.proofs.Common.{◌≡◌, ◌≢◌, ℕ, ◌≤◌, arith, false, List, [], ◌∷◌, ◌⊎◌, inl, inr, refl, sym, ap, subst, ◌∙◌, Option, Some, None, if◌then◌else◌, IsTrue, true≢false}
+use Rattle.std.proofs.Common.{◌≡◌, ◌≢◌, ℕ, ◌≤◌, arith, false, List, [], ◌∷◌, ◌⊎◌, inl, inr, refl, sym, ap, subst, ◌∙◌, Some, None, if◌then◌else◌, IsTrue, true≢false}
 use Rattle.std.proofs.Math.Path.{fun_ext}
 use Rattle.campl_machine.specs.Names.{Path, End, Who, Process, Service, same_end, same_who}
 use Rattle.campl_machine.specs.Machine.{update}
@@ -12,7 +12,8 @@ use Rattle.campl_types.specs.Names.{found, are_distinct}
 use Rattle.campl_service.specs.declared.phase.Phase.TheVariants as phase
 use Rattle.campl_meaning.specs.States.{Message, Running, Attending, State, Runs, Serves}
 use Rattle.campl_meaning.specs.Reductions.{Configuration}
-use Rattle.campl_meaning.specs.Apart.{Place, At, In, Gone, IsCarried, end_names, IsJoined, IsHeldBy, IsServedBy, IsOfKind, owes_pair, node_of, graph, number_after, number_in_end, IsAtMost, IsNamed, IsApart}
+use Rattle.campl_meaning.specs.Apart.{Place, At, In, Gone, IsCarried, end_names, IsJoined, IsHeldBy, IsServedBy, IsOfKind, owes_pair, node_of, graph, number_after, number_in_end, IsNamed, IsApart}
+use Rattle.campl_meaning.proofs.Named.{at-most-more}
 
 -- The node that makes the step
 
@@ -33,10 +34,6 @@ pub record SamePairs (c : Configuration) (owed2 : End → List Message) : Type 0
 -- c after the node who went on as s2, with this owed
 abbrev pub gone_on : Configuration → Who → State → (End → List Message) → Configuration
 gone_on c who s2 owed2 = record { nodes = update same_who ((who, Some s2) ∷ []) c.nodes; partner = c.partner; owed = owed2 }
-
-pub at-most : (o : Option ℕ) (m n : ℕ) → m ≤ n → IsAtMost o m → IsAtMost o n
-at-most None m n h a = tt
-at-most (Some k) m n h a = omega arith
 
 was-runs : (s t : State) (r : Running) → Continues s t → t ≡ Runs r → (o : Running) × (s ≡ Runs o) × (r.ends ≡ o.ends) × (o.steps ≤ r.steps)
 was-runs (Runs o) t r h e = let k : (r.ends ≡ o.ends) × (o.steps ≤ r.steps) = subst (λ z. Continues (Runs o) z) e h in (o, refl, k.0, k.1)
@@ -132,8 +129,8 @@ module _ (c : Configuration) (who : Who) (s s2 : State) (owed2 : End → List Me
     paths = λ p q r t i j.
         let (o, k, x, y) = was p r i in
         let (u, m) = there (Process q) t j in
-        at-most (number_after p q) o.steps r.steps y (l.paths p q o u k m);
-    channels = λ p r e i j. let (o, k, x, y) = was p r i in at-most (number_in_end p e) o.steps r.steps y (l.channels p o e k j);
+        at-most-more (number_after p q) o.steps r.steps y (l.paths p q o u k m);
+    channels = λ p r e i j. let (o, k, x, y) = was p r i in at-most-more (number_in_end p e) o.steps r.steps y (l.channels p o e k j);
   }
 
   module _ (place : End → Place) (l : IsApart c place) (on : Continues s s2) (same : SamePairs c owed2) where

@@ -1,5 +1,5 @@
 -- The start of an accepted source with any scripts is lawful.
-use Rattle.std.proofs.Common.{◌≡◌, ◌≢◌, ◌∙◌, ◌⊎◌, inl, inr, refl, sym, ap, ap₂, subst, ℕ, zero, suc, arith, Bool, true, false, ◌&&◌, IsTrue, List, [], ◌∷◌, ◌++◌, Option, Some, None, map, length, true≢false, append_assoc, codes}
+use Rattle.std.proofs.Common.{◌≡◌, ◌≢◌, ◌∙◌, ◌⊎◌, inl, inr, refl, sym, ap, ap₂, subst, ℕ, zero, suc, arith, Bool, true, false, IsTrue, List, [], ◌∷◌, ◌++◌, Option, Some, None, map, length, true≢false, append_assoc, codes}
 use Rattle.campl_tree.specs.declared.place.Ident.{Ident}
 use Rattle.campl_tree.specs.declared.process.Binder.{Binder}
 use Rattle.campl_tree.specs.declared.service.Side.{Side}
@@ -44,6 +44,7 @@ use Rattle.campl_kept_quiet.proofs.Handed.{distinct-right, Among, found-among, a
 use Rattle.campl_kept_quiet.proofs.Calls.{heading, channels-listed}
 use Rattle.campl_kept_quiet.proofs.Wires.{Wired, near-far, partner-near, partner-far, partner-is, own, base, base-near, base-far, among-holding, holding-is, holding-differ, holding-names, Suit, suit-append, suit-fit, attend, no-process, serving-is, serving-there, service_names, service-listed, wired_ends, joined-listed}
 use Rattle.campl_types.proofs.Lowers.{process-typed}
+use Rattle.campl_peel.proofs.Standing.{and-both}
 
 -- `run`
 
@@ -62,10 +63,6 @@ run-is w i = go (process_named w (codes "run")) refl
     go : (o : Option ProcessDecl) → process_named w (codes "run") ≡ o → (q : ProcessDecl) × (process_named w (codes "run") ≡ Some q) × (has_services_alone q ≡ true)
     go None e = absurd (cc (rw e at i))
     go (Some q) e = (q, e, alone q (has_services_alone q) refl e)
-
-and-both : (a b : Bool) → (a && b) ≡ true → (a ≡ true) × (b ≡ true)
-and-both true b h = (refl, h)
-and-both false b h = absurd (cc h)
 
 no-variables : (xs : List Binder) (ts : List SeqType) → is_empty ts ≡ true → row_variables xs ts ≡ []
 no-variables [] ts i = refl

@@ -1,5 +1,5 @@
 -- A step of a process that changes only its own state keeps a configuration lawful.
-use Rattle.std.proofs.Common.{◌≡◌, ◌≢◌, ◌∙◌, ◌⊎◌, inl, inr, refl, sym, ap, subst, ℕ, ◌≤◌, arith, Bool, true, false, ◌&&◌, not, List, [], ◌∷◌, ◌++◌, Option, Some, None, option_map, if◌then◌else◌, true≢false}
+use Rattle.std.proofs.Common.{◌≡◌, ◌≢◌, ◌∙◌, ◌⊎◌, inl, inr, refl, sym, ap, subst, ℕ, Bool, true, false, ◌&&◌, not, List, [], ◌∷◌, ◌++◌, Option, Some, None, option_map, if◌then◌else◌, true≢false}
 use Rattle.std.proofs.Math.Path.{fun_ext}
 use Rattle.campl_tree.specs.declared.service.Side.{Side}
 use Rattle.campl_tree.specs.Plain.ChanType.{TopBot}
@@ -18,8 +18,9 @@ use Rattle.campl_peel.specs.Terms.{held_ends}
 use Rattle.campl_meaning.specs.States.{Message, Word, Pick, EndPair, Running, Attending, State, Runs, Serves}
 use Rattle.campl_meaning.specs.Reductions.{Configuration}
 use Rattle.campl_meaning.specs.Views.{TakesAll}
-use Rattle.campl_meaning.specs.Apart.{Place, At, In, Gone, IsPlaced, IsJoined, IsHeldBy, IsServedBy, IsCarried, IsNamed, IsAtMost, IsOfKind, node_of, owes_pair, graph, number_after, number_in_end}
+use Rattle.campl_meaning.specs.Apart.{Place, At, In, Gone, IsPlaced, IsJoined, IsHeldBy, IsServedBy, IsCarried, IsNamed, IsOfKind, node_of, owes_pair, graph, number_after, number_in_end}
 use Rattle.campl_meaning.specs.Lawful.{Channels, seen, IsTypedAt, Agree, IsPairOf, AreLastPairs, IsInPhase, Lawful}
+use Rattle.campl_meaning.proofs.Named.{at-most-more}
 use Rattle.campl_kept_quiet.specs.Quiet.{IsAlike, IsQuiet, behind}
 use Rattle.campl_kept_quiet.proofs.Alike.{alike-seen, alike-none, alike-on, alike-top}
 
@@ -71,10 +72,6 @@ owed-pair [] i = absurd (cc i)
 owed-pair (Word v ∷ ms) i = let (a, b, before, after, e) = owed-pair ms i in (a, b, Word v ∷ before, after, ap (λ z. Word v ∷ z) e)
 owed-pair (Pick n ∷ ms) i = let (a, b, before, after, e) = owed-pair ms i in (a, b, Pick n ∷ before, after, ap (λ z. Pick n ∷ z) e)
 owed-pair (EndPair f g ∷ ms) i = (f, g, [], ms, refl)
-
-at-most : (o : Option ℕ) (m n : ℕ) → m ≤ n → IsAtMost o m → IsAtMost o n
-at-most None m n h a = tt
-at-most (Some k) m n h a = omega arith
 
 -- views and types that are alike
 takes-alike : (w : World) (channel after : Channels) (e : End) (ms : List Message) (v : View) → IsAlike (channel e) (after e) → TakesAll w (seen channel e) ms v → TakesAll w (seen after e) ms v
@@ -238,11 +235,11 @@ module _ (source : Program) (c : Configuration) (l : Lawful source c) (p : Path)
     paths = λ v u s t i j.
         let (t2, old) = was (Process u) t j in
         elim (runs v s i) [
-          | inl (k, m) ↦ at-most (number_after v u) r.steps s.steps (q.steps s m) (l.apart.named.paths v u r t2 (subst (λ z. c.nodes (Process z) ≡ Some (Runs r)) k is) old)
+          | inl (k, m) ↦ at-most-more (number_after v u) r.steps s.steps (q.steps s m) (l.apart.named.paths v u r t2 (subst (λ z. c.nodes (Process z) ≡ Some (Runs r)) k is) old)
           | inr (n, m) ↦ l.apart.named.paths v u s t2 m old
         ];
     channels = λ v s e i joined. elim (runs v s i) [
-      | inl (k, m) ↦ at-most (number_in_end v e) r.steps s.steps (q.steps s m) (l.apart.named.channels v r e (subst (λ z. c.nodes (Process z) ≡ Some (Runs r)) k is) joined)
+      | inl (k, m) ↦ at-most-more (number_in_end v e) r.steps s.steps (q.steps s m) (l.apart.named.channels v r e (subst (λ z. c.nodes (Process z) ≡ Some (Runs r)) k is) joined)
       | inr (n, m) ↦ l.apart.named.channels v s e m joined
     ];
   }

@@ -16,6 +16,7 @@ use Rattle.campl_meaning.specs.Reductions.{Configuration, Event, act_of, event_o
 use Rattle.campl_meaning.specs.Start.{start}
 use Rattle.campl_meaning.specs.Kept.{Goes, IsKept}
 use Rattle.campl_meaning.specs.Lawful.{IsAccepted, Lawful}
+use Rattle.campl_meaning.proofs.Steps.{goes-of}
 use Rattle.campl_kept_quiet.specs.Quiet.{Keeps}
 use Rattle.campl_kept_quiet.specs.Others.{OthersKeep}
 use Rattle.campl_kept_quiet.proofs.Whole.{kept}
@@ -24,14 +25,6 @@ use Rattle.campl_kept_messages.proofs.Kept.{letters-kept, services-kept}
 use Rattle.campl_kept_identities.proofs.Identities.{link-kept}
 use Rattle.campl_kept_births.proofs.Goes.{peel-goes, split-goes, fork-goes}
 use Rattle.campl_laws.specs.Reached.{IsReached, IsMet}
-
--- what a node that is there wants, and can do, is a reduction
-pub goes-of : (w : World) (c d : Configuration) (who : Who) (s : State) (i : ℕ) → c.nodes who ≡ Some s → Does c who (act_of w who s i) d → Goes w c who d
-goes-of w c d who s i is does =
-    let done : performs c who (act_of w who s i) ≡ Some d = of_does c who (act_of w who s i) d does in
-    let x : Event = event_of c (wants w who s i) in
-    let r : reduce w c who i ≡ Some (x, d) = rw is (ap (option_map {U = Event × Configuration} (λ (e : Configuration). (x, e))) done) in
-    (x, (i, r))
 
 process-goes : (w : World) (c d : Configuration) (p : Path) (r : Running) (i : ℕ) (term : Term) → c.nodes (Process p) ≡ Some (Runs r) → r.term ≡ term
     → Does c (Process p) (term_command w p r i term).act d → Goes w c (Process p) d

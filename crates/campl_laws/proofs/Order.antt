@@ -6,22 +6,7 @@ use Rattle.campl_machine.specs.Names.{Birth, Path, Who, Process, Service, same_b
 use Rattle.campl_machine.proofs.Same.{same_birth-is, same_birth-refl}
 use Rattle.campl_machine.proofs.Updates.{split, both}
 use Rattle.campl_meaning.specs.OneAtATime.{is_birth_before, are_births_before, is_before}
-
-or-left : (a b : Bool) → a ≡ true → (a || b) ≡ true
-or-left true b i = refl
-or-left false b i = absurd (true≢false (sym i))
-
-or-right : (a b : Bool) → b ≡ true → (a || b) ≡ true
-or-right true b i = refl
-or-right false b i = i
-
-or-cases : (a b : Bool) → (a || b) ≡ true → (a ≡ true) ⊎ (b ≡ true)
-or-cases true b i = inl refl
-or-cases false b i = inr i
-
-and-true : (a b : Bool) → a ≡ true → b ≡ true → (a && b) ≡ true
-and-true true b i j = j
-and-true false b i j = absurd (true≢false (sym i))
+use Rattle.campl_types.proofs.Truth.{or-first, or-second, or-split, and-both}
 
 tell : (m n : ℕ) → (m < n) ⊎ ((m ≡ n) ⊎ (n < m))
 tell m n = elim (split (ltb m n)) [
@@ -38,15 +23,15 @@ abbrev BirthLess : Birth → Birth → Type 0
 BirthLess a b = (a.step < b.step) ⊎ ((a.step ≡ b.step) × (a.place < b.place))
 
 birth-less : (a b : Birth) → is_birth_before a b ≡ true → BirthLess a b
-birth-less a b i = elim (or-cases (nat_lt a.step b.step) (eqb a.step b.step && nat_lt a.place b.place) i) [
+birth-less a b i = elim (or-split (nat_lt a.step b.step) (eqb a.step b.step && nat_lt a.place b.place) i) [
   | inl j ↦ inl (ltb-true a.step b.step j)
   | inr j ↦ let (k, h) = both (eqb a.step b.step) (nat_lt a.place b.place) j in inr (eqb-true a.step b.step k, ltb-true a.place b.place h)
 ]
 
 less-birth : (a b : Birth) → BirthLess a b → is_birth_before a b ≡ true
-less-birth a b (inl i) = or-left (nat_lt a.step b.step) (eqb a.step b.step && nat_lt a.place b.place) (lt-ltb a.step b.step i)
+less-birth a b (inl i) = or-first (nat_lt a.step b.step) (eqb a.step b.step && nat_lt a.place b.place) (lt-ltb a.step b.step i)
 less-birth a b (inr (i, j)) =
-    or-right (nat_lt a.step b.step) (eqb a.step b.step && nat_lt a.place b.place) (and-true (eqb a.step b.step) (nat_lt a.place b.place) (eq-eqb a.step b.step i) (lt-ltb a.place b.place j))
+    or-second (nat_lt a.step b.step) (eqb a.step b.step && nat_lt a.place b.place) (and-both (eqb a.step b.step) (nat_lt a.place b.place) (eq-eqb a.step b.step i) (lt-ltb a.place b.place j))
 
 birth-trans : (a b c : Birth) → BirthLess a b → BirthLess b c → BirthLess a c
 birth-trans a b c (inl i) (inl j) = inl (omega (arith, i, j))
@@ -65,7 +50,7 @@ birth-tell a b = elim (tell a.step b.step) [
   | inr (inl i) ↦ elim (tell a.place b.place) [
     | inl j ↦ inl (inr (i, j))
     | inr (inr j) ↦ inr (inr (inr (sym i, j)))
-    | inr (inl j) ↦ inr (inl (same_birth-is a b (and-true (eqb a.step b.step) (eqb a.place b.place) (eq-eqb a.step b.step i) (eq-eqb a.place b.place j))))
+    | inr (inl j) ↦ inr (inl (same_birth-is a b (and-both (eqb a.step b.step) (eqb a.place b.place) (eq-eqb a.step b.step i) (eq-eqb a.place b.place j))))
   ]
 ]
 
@@ -79,7 +64,7 @@ PathLess (a ∷ p) (b ∷ q) = BirthLess a b ⊎ ((a ≡ b) × PathLess p q)
 path-less : (p q : Path) → are_births_before p q ≡ true → PathLess p q
 path-less [] q i = absurd (true≢false (sym i))
 path-less (a ∷ p) [] i = absurd (true≢false (sym i))
-path-less (a ∷ p) (b ∷ q) i = elim (or-cases (is_birth_before a b) (same_birth a b && are_births_before p q) i) [
+path-less (a ∷ p) (b ∷ q) i = elim (or-split (is_birth_before a b) (same_birth a b && are_births_before p q) i) [
   | inl j ↦ inl (birth-less a b j)
   | inr j ↦ let (k, h) = both (same_birth a b) (are_births_before p q) j in inr (same_birth-is a b k, path-less p q h)
 ]
@@ -87,10 +72,10 @@ path-less (a ∷ p) (b ∷ q) i = elim (or-cases (is_birth_before a b) (same_bir
 less-path : (p q : Path) → PathLess p q → are_births_before p q ≡ true
 less-path [] q h = absurd h
 less-path (a ∷ p) [] h = absurd h
-less-path (a ∷ p) (b ∷ q) (inl h) = or-left (is_birth_before a b) (same_birth a b && are_births_before p q) (less-birth a b h)
+less-path (a ∷ p) (b ∷ q) (inl h) = or-first (is_birth_before a b) (same_birth a b && are_births_before p q) (less-birth a b h)
 less-path (a ∷ p) (b ∷ q) (inr (i, h)) =
-    or-right (is_birth_before a b) (same_birth a b && are_births_before p q)
-    (and-true (same_birth a b) (are_births_before p q) (subst (λ z. same_birth a z ≡ true) i (same_birth-refl a)) (less-path p q h))
+    or-second (is_birth_before a b) (same_birth a b && are_births_before p q)
+    (and-both (same_birth a b) (are_births_before p q) (subst (λ z. same_birth a z ≡ true) i (same_birth-refl a)) (less-path p q h))
 
 path-trans : (p q r : Path) → PathLess p q → PathLess q r → PathLess p r
 path-trans [] q r h k = absurd h
@@ -129,7 +114,7 @@ WhoLess (Service m) (Process q) = ⊥
 WhoLess (Service m) (Service n) = m < n
 
 who-less : (u v : Who) → is_before u v ≡ true → WhoLess u v
-who-less (Process p) (Process q) i = elim (or-cases (nat_lt (length p) (length q)) (eqb (length p) (length q) && are_births_before p q) i) [
+who-less (Process p) (Process q) i = elim (or-split (nat_lt (length p) (length q)) (eqb (length p) (length q) && are_births_before p q) i) [
   | inl j ↦ inl (ltb-true (length p) (length q) j)
   | inr j ↦ let (k, h) = both (eqb (length p) (length q)) (are_births_before p q) j in inr (eqb-true (length p) (length q) k, path-less p q h)
 ]
@@ -138,10 +123,10 @@ who-less (Service m) (Process q) i = absurd (true≢false (sym i))
 who-less (Service m) (Service n) i = ltb-true m n i
 
 less-who : (u v : Who) → WhoLess u v → is_before u v ≡ true
-less-who (Process p) (Process q) (inl h) = or-left (nat_lt (length p) (length q)) (eqb (length p) (length q) && are_births_before p q) (lt-ltb (length p) (length q) h)
+less-who (Process p) (Process q) (inl h) = or-first (nat_lt (length p) (length q)) (eqb (length p) (length q) && are_births_before p q) (lt-ltb (length p) (length q) h)
 less-who (Process p) (Process q) (inr (i, h)) =
-    or-right (nat_lt (length p) (length q)) (eqb (length p) (length q) && are_births_before p q)
-    (and-true (eqb (length p) (length q)) (are_births_before p q) (eq-eqb (length p) (length q) i) (less-path p q h))
+    or-second (nat_lt (length p) (length q)) (eqb (length p) (length q) && are_births_before p q)
+    (and-both (eqb (length p) (length q)) (are_births_before p q) (eq-eqb (length p) (length q) i) (less-path p q h))
 less-who (Process p) (Service n) h = refl
 less-who (Service m) (Process q) h = absurd h
 less-who (Service m) (Service n) h = lt-ltb m n h

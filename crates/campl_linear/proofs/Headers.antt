@@ -19,7 +19,8 @@ use Rattle.campl_peel.specs.Numbered.{outputs_in, inputs_in}
 use Rattle.campl_linear.specs.Plugs.{stands_once, links_are_new, may_stand, names_stand, headers_stand, uses, links_are_used, all_are_used}
 use Rattle.campl_linear.proofs.Turns.{in-turn}
 use Rattle.campl_linear.proofs.Uses.{is-new, side-is, side-same}
-use Rattle.campl_linear.proofs.Standing.{among-some, among-none, at-most-once, on, on-out, on-in}
+use Rattle.campl_types.proofs.Times.{among-some, among-none}
+use Rattle.campl_linear.proofs.Standing.{at-most-once, on, on-out, on-in}
 use Rattle.campl_types.proofs.Truth.{and-first, and-second, and-both, or-first, or-second, or-split, as-false, or-none, no-both, split}
 use Rattle.campl_types.proofs.Among.{Apart, distinct-append, DistinctFrom, none-distinct, distinct-more, distinct-first, distinct-rest}
 

@@ -8,24 +8,9 @@ use Rattle.campl_types.specs.Names.{Name, same_name, is_among, are_distinct}
 use Rattle.campl_types.specs.World.{names_of}
 use Rattle.campl_types.specs.Headers.{times, times_in, times_out, one_if, link_names, count}
 use Rattle.campl_types.proofs.Names.{same-is, same-itself}
+use Rattle.campl_types.proofs.Times.{among-none}
 use Rattle.campl_peel.specs.Numbered.{one_up, number_of, outputs_in, inputs_in, joined_parts}
 use Rattle.campl_types.proofs.Truth.{and-first, and-second, or-first, or-second, or-none, not-true}
-
-pub among-some : (n : Name) (xs : List Ident) → is_among n (names_of xs) ≡ true → 1 ≤ times n xs
-among-some n [] i = absurd (true≢false (sym i))
-among-some n (x ∷ xs) i = go (same_name n x.name) refl i (among-some n xs)
-  where
-    go : (b : Bool) → same_name n x.name ≡ b → (b || is_among n (names_of xs)) ≡ true → (is_among n (names_of xs) ≡ true → 1 ≤ times n xs) → 1 ≤ one_if (same_name n x.name) + times n xs
-    go true e j later = let k : one_if (same_name n x.name) ≡ 1 = ap one_if e in omega (arith, k)
-    go false e j later = let k : 1 ≤ times n xs = later j in omega (arith, k)
-
-pub among-none : (n : Name) (xs : List Ident) → is_among n (names_of xs) ≡ false → times n xs ≡ 0
-among-none n [] i = refl
-among-none n (x ∷ xs) i =
-    let m = or-none (same_name n x.name) (is_among n (names_of xs)) i in
-    let e : one_if (same_name n x.name) ≡ 0 = ap one_if m.0 in
-    let h : times n xs ≡ 0 = among-none n xs m.1 in
-    omega (arith, e, h)
 
 pub at-most-once : (n : Name) (xs : List Ident) → are_distinct (names_of xs) ≡ true → times n xs ≤ 1
 at-most-once n [] d = omega arith

@@ -85,15 +85,12 @@ offers _ cs i = absurd (cc i)
 
 -- New names
 
-new-is : (y : Ident) (held : Holding) (f : Fine) → new_name y held ≡ Is f → found y.name held ≡ None
-new-is y held f i = go (found y.name held) refl
+pub is-new : (y : Ident) (held : Holding) (f : Fine) → new_name y held ≡ Is f → found y.name held ≡ None
+is-new y held f i = go (found y.name held) refl
   where
     go : (o : Option Channel) → found y.name held ≡ o → found y.name held ≡ None
     go None e = e
     go (Some c) e = absurd (cc (rw e at i))
-
-pub is-new : (y : Ident) (held : Holding) (f : Fine) → new_name y held ≡ Is f → found y.name held ≡ None
-is-new = new-is
 
 pub new-name : (y : Ident) (held : Holding) → found y.name held ≡ None → new_name y held ≡ Is fine
 new-name y held i = rw i refl
@@ -107,11 +104,11 @@ pub record TwoNew (y z : Name) (held : Holding) : Type 0 where
 pub two-are-new : (y z : Ident) (held : Holding) (f : Fine) → two_new y z held ≡ Is f → TwoNew y.name z.name held
 two-are-new y z held f i =
     let j = in-turn (new_name y held) (λ _. if same_name y.name z.name then Fails (LeftOver z.place z.name) else new_name z held) f i in
-    go (new-is y held j.0 j.1) (same_name y.name z.name) refl j.2
+    go (is-new y held j.0 j.1) (same_name y.name z.name) refl j.2
   where
     go : found y.name held ≡ None → (b : Bool) → same_name y.name z.name ≡ b → (if b then Fails (LeftOver z.place z.name) else new_name z held) ≡ Is f → TwoNew y.name z.name held
     go new true e k = absurd (cc k)
-    go new false e k = record { first = new; second = new-is z held f k; differ = e }
+    go new false e k = record { first = new; second = is-new z held f k; differ = e }
 
 pub two-new : (y z : Ident) (held : Holding) → TwoNew y.name z.name held → two_new y z held ≡ Is fine
 two-new y z held n = rw (n.first, n.differ, n.second) refl

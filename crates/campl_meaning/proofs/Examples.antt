@@ -13,7 +13,7 @@ use Rattle.campl_tree.specs.Plain.Process.{Body}
 use Rattle.campl_tree.specs.Plain.Decl as d
 use Rattle.campl_tree.specs.Plain.Decl.{Program, ProcessDecl}
 use Rattle.campl_value.specs.Tree as v
-use Rattle.campl_machine.specs.Names.{Who, Process, End, Half, First}
+use Rattle.campl_machine.specs.Names.{Who, Process, End, First}
 use Rattle.campl_types.specs.Names.{Name}
 use Rattle.campl_types.specs.SameType.{nowhere}
 use Rattle.campl_types.specs.World.{world_of}

@@ -18,7 +18,7 @@ use Rattle.campl_meaning.proofs.Joined.{joined-before}
 
 -- Numbers after paths
 
-at-most-more : (o : Option ℕ) (m n : ℕ) → m ≤ n → IsAtMost o m → IsAtMost o n
+pub at-most-more : (o : Option ℕ) (m n : ℕ) → m ≤ n → IsAtMost o m → IsAtMost o n
 at-most-more None m n l h = tt
 at-most-more (Some k) m n l h = omega (arith, l, h)
 

@@ -13,7 +13,7 @@ use Rattle.campl_types.specs.World.{World, world_of}
 use Rattle.campl_service.specs.Scripts.{Lines}
 use Rattle.campl_meaning.specs.States.{State, Command}
 use Rattle.campl_meaning.specs.Wants.{wants}
-use Rattle.campl_meaning.specs.Reductions.{Configuration, Event, act_of, event_of, reduce, reduce_state}
+use Rattle.campl_meaning.specs.Reductions.{Configuration, Event, act_of, event_of, reduce}
 use Rattle.campl_meaning.specs.Start.{start}
 use Rattle.campl_meaning.specs.Ends.{IsEnabled, Ending, Finished, Broken, Awaiting, OutOfSteps, IsEnd, transcript_of}
 use Rattle.campl_meaning.specs.OneAtATime.{FirstReduces, RunsFromStart}
@@ -24,30 +24,12 @@ use Rattle.campl_meaning.specs.Kept.{Goes, IsKept}
 use Rattle.campl_meaning.proofs.Independent.{keeps-apart}
 use Rattle.campl_meaning.proofs.Calm.{calm-kept, one-choice, start-calm}
 use Rattle.campl_meaning.proofs.Grows.{only-adds}
+use Rattle.campl_meaning.proofs.Steps.{IsStep, step-of}
 
 -- Reductions with events, and those of the machine
 
-behind : (o : Option Configuration) (x : Event) (d : Configuration) (f : Event) → option_map {U = Event × Configuration} (λ (e : Configuration). (f, e)) o ≡ Some (x, d) → o ≡ Some d
-behind None x d f i = absurd (cc i)
-behind (Some e) x d f i =
-    let q : ◌≡◌ {A = Event × Configuration} (f, e) (x, d) = cc i in
-    ap (λ (z : Event × Configuration). Some z.1) q
-
 ahead : (o : Option Configuration) (d : Configuration) (f : Event) → o ≡ Some d → option_map {U = Event × Configuration} (λ (e : Configuration). (f, e)) o ≡ Some (f, d)
 ahead o d f i = ap (option_map {U = Event × Configuration} (λ (e : Configuration). (f, e))) i
-
--- a node that makes a step is there
-pub record IsStep (w : World) (c : Configuration) (who : Who) (i : ℕ) (d : Configuration) : Type 0 where
-  pub state : State
-  pub there : c.nodes who ≡ Some state
-  pub performed : performs c who (act_of w who state i) ≡ Some d
-
-pub step-of : (w : World) (c : Configuration) (who : Who) (i : ℕ) (x : Event) (d : Configuration) → reduce w c who i ≡ Some (x, d) → IsStep w c who i d
-step-of w c who i x d r = go (c.nodes who) refl r
-  where
-    go : (o : Option State) → c.nodes who ≡ o → reduce_state w c who i o ≡ Some (x, d) → IsStep w c who i d
-    go None is f = absurd (cc f)
-    go (Some s) is f = record { state = s; there = is; performed = behind (performs c who (act_of w who s i)) x d _ f }
 
 machine-of : (w : World) (c : Configuration) (who : Who) (i : ℕ) (d : Configuration) → IsStep w c who i d → machine.reduce (act_of w) c who i ≡ Some d
 machine-of w c who i d s = rw s.there s.performed

@@ -16,7 +16,9 @@ use Rattle.campl_types.specs.Headers.{links_in, link_names, times, times_in, tim
 use Rattle.campl_types.proofs.Names.{same-is}
 use Rattle.campl_peel.specs.Numbered.{one_up, number_of, outputs_in, inputs_in, joined_by, joined_parts, PlugIsTree}
 use Rattle.campl_peel.specs.Plugging.{stands_in, stands_among, links_to, without_link, held_by_rest, PluggingIsWellFormed}
-use Rattle.campl_peel.proofs.Standing.{split, not-both, or-neither, and-both, among-some, among-none, once}
+use Rattle.campl_types.proofs.Truth.{split, no-both, or-none}
+use Rattle.campl_types.proofs.Times.{among-some, among-none, once}
+use Rattle.campl_peel.proofs.Standing.{and-both}
 use Rattle.campl_peel.proofs.Peeling.{link-uses}
 use Rattle.campl_peel.proofs.Numbers.{weight-out, weight-in, numbered}
 use Rattle.campl_peel.proofs.Plugged.{found-there, pairs-within}
@@ -30,7 +32,7 @@ up-suc (suc n) h = refl
 
 same-without : (x : Name) (links : List b.Link) → is_among x (link_names links) ≡ false → without_link x links ≡ links
 same-without x [] i = refl
-same-without x (m ∷ links) i = let (a, c) = or-neither (same_name x m.name.name) (is_among x (link_names links)) i in rw a (ap (λ ls. m ∷ ls) (same-without x links c))
+same-without x (m ∷ links) i = let (a, c) = or-none (same_name x m.name.name) (is_among x (link_names links)) i in rw a (ap (λ ls. m ∷ ls) (same-without x links c))
 
 one-fewer : (x : Name) (links : List b.Link) → are_distinct (link_names links) ≡ true → (u : ChanType) → links_in links x ≡ Some u → suc (length (without_link x links)) ≡ length links
 one-fewer x [] i u e = absurd (let no : ⊥ = cc in no)
@@ -44,7 +46,7 @@ one-fewer x (m ∷ links) i u e =
     ]
   where
     not-is : (c : Bool) → not c ≡ true → c ≡ false
-    not-is true j = absurd (not-both false j refl)
+    not-is true j = absurd (no-both false j refl)
     not-is false j = refl
 
 -- the link that joins them is there
@@ -66,7 +68,7 @@ link-at parts h (m ∷ links) l more e = elim (split (stands_in h m.name.name &&
 module _ (h : Header) (body : Body) (rest : Parts) (x : Name) (p q : ℕ) (low : 1 ≤ p) (low' : 1 ≤ q) where
   moved : (m : b.Link) → stands_in h m.name.name ≡ false → Joins (joined_by rest m) p q → Joins (joined_by (part_then h body rest) m) (suc p) (suc q)
   moved m i j =
-      let (a, c) = or-neither (is_among m.name.name (names_of h.inputs)) (is_among m.name.name (names_of h.outputs)) i in
+      let (a, c) = or-none (is_among m.name.name (names_of h.inputs)) (is_among m.name.name (names_of h.outputs)) i in
       rw (a, c) (elim j [
         | inl k ↦ inl (ap one_up k.0 ∙ up-suc p low, ap one_up k.1 ∙ up-suc q low')
         | inr k ↦ inr (ap one_up k.0 ∙ up-suc q low', ap one_up k.1 ∙ up-suc p low)
@@ -135,7 +137,7 @@ module _ (w : World) (vs : Vars) where
             let t : times l.name.name h.outputs ≡ 0 = among-none l.name.name h.outputs ea in
             let (k, d, e, s, part) = numbered outputs_in l.name.name (part_then g c more) (let v : times_out l.name.name (part_then g c more) ≡ _ = weight-out l.name.name (part_then g c more) in omega (arith, o, t, v)) in
             (number_of outputs_in l.name.name (part_then g c more), part, spot j at _ (rw (ea, ed) (inr (up-suc _ part.low, refl))))
-        go j at o i most stands false false ea ed = absurd (not-both (stands_in h l.name.name) stands (rw (ea, ed) refl))
+        go j at o i most stands false false ea ed = absurd (no-both (stands_in h l.name.name) stands (rw (ea, ed) refl))
 
     rest-well : PluggingIsWellFormed w vs (held_by_rest h l held) (without_link l.name.name links) (part_then g c more)
     rest-well = (keeps w vs held links h body g c more well l one).rest

@@ -7,7 +7,8 @@ use Rattle.campl_types.specs.Names.{Name, same_name, is_among, are_distinct}
 use Rattle.campl_types.specs.Headers.{links_in, link_names, times, times_in, times_out}
 use Rattle.campl_types.proofs.Names.{same-itself, split-names}
 use Rattle.campl_peel.specs.Plugging.{stands_in, stands_among, links_to, HasOneLinkTo, EachHasOneLink, without_link}
-use Rattle.campl_peel.proofs.Standing.{split, not-both, or-neither, or-right, and-both, stands-some, parts-some}
+use Rattle.campl_types.proofs.Truth.{split, no-both, or-none, or-second}
+use Rattle.campl_peel.proofs.Standing.{and-both, stands-some, parts-some}
 use Rattle.campl_peel.proofs.Peeling.{but}
 
 module _ (parts : Parts) (h : Header) where
@@ -29,7 +30,7 @@ module _ (parts : Parts) (h : Header) where
         let f : links_to parts h links ≡ l ∷ more = rw t at e in
         let (a, b, c) = first-link links l more f in (
           elim (split-names l.name.name m.name.name) [
-            | inl s ↦ absurd (not-both (stands_in h l.name.name && stands_among parts l.name.name) (rw (b, c) refl) (subst (λ z. (stands_in h z && stands_among parts z) ≡ false) (sym s) t))
+            | inl s ↦ absurd (no-both (stands_in h l.name.name && stands_among parts l.name.name) (rw (b, c) refl) (subst (λ z. (stands_in h z && stands_among parts z) ≡ false) (sym s) t))
             | inr s ↦ rw s a
           ],
           b,
@@ -46,7 +47,7 @@ module _ (parts : Parts) (h : Header) where
     | inr s ↦
         let r : is_among y (link_names (links_to parts h links)) ≡ true = each-link links y u (rw s at e) t in
         elim (split (stands_in h m.name.name && stands_among parts m.name.name)) [
-          | inl a ↦ rw a (or-right (same_name y m.name.name) (is_among y (link_names (links_to parts h links))) r)
+          | inl a ↦ rw a (or-second (same_name y m.name.name) (is_among y (link_names (links_to parts h links))) r)
           | inr a ↦ rw a r
         ]
   ]
@@ -81,14 +82,14 @@ links-but x links = fun_ext (go links)
       where
         other : (m : Link) (y : Name) → x ≡ m.name.name → same_name x y ≡ false → same_name y m.name.name ≡ false
         other m y s e = elim (split-names y m.name.name) [
-          | inl t ↦ absurd (not-both (same_name x y) (subst (λ z. same_name x z ≡ true) (s ∙ sym t) (same-itself x)) e)
+          | inl t ↦ absurd (no-both (same_name x y) (subst (λ z. same_name x z ≡ true) (s ∙ sym t) (same-itself x)) e)
           | inr t ↦ t
         ]
 
 not-among : (x y : Name) (links : List Link) → is_among y (link_names links) ≡ false → is_among y (link_names (without_link x links)) ≡ false
 not-among x y [] i = refl
 not-among x y (m ∷ links) i =
-    let (a, b) = or-neither (same_name y m.name.name) (is_among y (link_names links)) i in
+    let (a, b) = or-none (same_name y m.name.name) (is_among y (link_names links)) i in
     elim (split (same_name x m.name.name)) [
       | inl s ↦ rw s (not-among x y links b)
       | inr s ↦ rw (s, a) (not-among x y links b)
@@ -104,7 +105,7 @@ distinct-kept x (m ∷ links) i =
     ]
   where
     not-is : (c : Bool) → not c ≡ true → c ≡ false
-    not-is true j = absurd (not-both false j refl)
+    not-is true j = absurd (no-both false j refl)
     not-is false j = refl
 
 -- where a name stands at most once among the parts, no two of them are joined by it

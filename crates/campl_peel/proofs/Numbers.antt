@@ -11,7 +11,8 @@ use Rattle.campl_types.specs.Held.{Held}
 use Rattle.campl_types.specs.Headers.{Links, times, times_in, times_out, NamesDiffer, share, count}
 use Rattle.campl_types.specs.Linear.{IsWellFormed, PartsAreWellFormed}
 use Rattle.campl_peel.specs.Numbered.{part_at, add_part, picked, one_up, number_of, outputs_in, inputs_in}
-use Rattle.campl_peel.proofs.Standing.{split, among-some, among-none}
+use Rattle.campl_types.proofs.Truth.{split}
+use Rattle.campl_types.proofs.Times.{among-some, among-none}
 use Rattle.campl_peel.proofs.Sums.{sum_of, sum_to, sum-first, sum-all, sum-reverse}
 
 pub same-pair : (p q : Header × Body) → Some p ≡ Some q → (p.0 ≡ q.0) × (p.1 ≡ q.1)

@@ -12,7 +12,9 @@ use Rattle.campl_types.specs.Headers.{Links, times, times_in, times_out, IsUsed,
 use Rattle.campl_types.specs.Linear.{IsWellFormed, PartsAreWellFormed, PlugIsWellFormed}
 use Rattle.campl_types.proofs.Names.{same-itself, split-names}
 use Rattle.campl_peel.specs.Plugging.{stands_in, held_by_child, held_by_rest}
-use Rattle.campl_peel.proofs.Standing.{split, not-both, or-neither, among-some, among-none, stands-some, stands-none, once}
+use Rattle.campl_types.proofs.Truth.{split, no-both, or-none}
+use Rattle.campl_types.proofs.Times.{among-some, among-none, once}
+use Rattle.campl_peel.proofs.Standing.{stands-some, stands-none}
 
 pub none-or : {A : Type 0} (o : Option A) → (o ≡ None) ⊎ ((v : A) × (o ≡ Some v))
 none-or None = inl refl
@@ -88,7 +90,7 @@ module _ (w : World) (vs : Vars) (links : Links) (held : Held) (h : Header) (bod
       | inl n ↦ rw n (other (is_among y (names_of h.outputs)) (is_among y (names_of h.inputs)) (held y))
       | inr s ↦
           let (u, n) = s in
-          let (a, b) = or-neither (is_among y (names_of h.inputs)) (is_among y (names_of h.outputs)) (alone y u off n) in
+          let (a, b) = or-none (is_among y (names_of h.inputs)) (is_among y (names_of h.outputs)) (alone y u off n) in
           rw (n, a, b) refl
     ])
   ]
@@ -119,7 +121,7 @@ module _ (w : World) (vs : Vars) (links : Links) (held : Held) (h : Header) (bod
       | inr out ↦ rw out (let (a, b) = stands-none y h out in still-used (links y) (held y) _ _ _ _ b a (used y))
       | inl there ↦ rw there (elim (none-or (links y)) [
         | inl n ↦ rw n (not-used (held y) _ _ _ _ (stands-some y h there) (subst (λ o. IsUsed o (held y) (times y h.outputs + times_out y rest) (times y h.inputs + times_in y rest)) n (used y)))
-        | inr s ↦ let (u, n) = s in absurd (not-both (stands_in h y) there (alone y u off n))
+        | inr s ↦ let (u, n) = s in absurd (no-both (stands_in h y) there (alone y u off n))
       ])
     ])
   ]

@@ -19,7 +19,8 @@ use Rattle.campl_types.specs.Headers.{links_in, times, times_in, times_out, IsUs
 use Rattle.campl_types.proofs.Names.{same-itself}
 use Rattle.campl_peel.specs.Plugging.{stands_in, stands_among, links_to, HasOneLinkTo, EachHasOneLink}
 use Rattle.campl_peel.specs.Numbered.{part_at, add_part, picked, number_of, outputs_in, inputs_in, joined_by, joined_parts}
-use Rattle.campl_peel.proofs.Standing.{split, not-both, or-cases, or-right, and-both}
+use Rattle.campl_types.proofs.Truth.{split, no-both, or-split, or-second}
+use Rattle.campl_peel.proofs.Standing.{and-both}
 use Rattle.campl_peel.proofs.Peeling.{link-uses}
 use Rattle.campl_peel.proofs.Numbers.{same-pair, weight, weight-out, weight-in, there, numbered, one-number}
 
@@ -75,7 +76,7 @@ module _ (parts : Parts) (order : List ℕ) (x : Name) where
   -- where a name stands among the first parts of the order
   stands-before : (i : ℕ) → i ≤ length order → stands_among (picked parts (reverse (take i order))) x ≡ true
       → (u : ℕ) × (p : ℕ) × (h : Header) × (c : Body) × (u < i) × (slice_get order u ≡ Some p) × (part_at parts p ≡ Some (h, c)) × (stands_in h x ≡ true)
-  stands-before zero small t = absurd (not-both false t refl)
+  stands-before zero small t = absurd (no-both false t refl)
   stands-before (suc i) small t =
       let (q, e) = get-there order i (omega (arith, small)) in
       go q e (part_at parts q) refl (subst (λ z. stands_among (picked parts z) x ≡ true) (reverse-more order i q e) t) (stands-before i (omega (arith, small)))
@@ -84,7 +85,7 @@ module _ (parts : Parts) (order : List ℕ) (x : Name) where
           → (stands_among (picked parts (reverse (take i order))) x ≡ true → (u : ℕ) × (p : ℕ) × (h : Header) × (c : Body) × (u < i) × (slice_get order u ≡ Some p) × (part_at parts p ≡ Some (h, c)) × (stands_in h x ≡ true))
           → (u : ℕ) × (p : ℕ) × (h : Header) × (c : Body) × (u < suc i) × (slice_get order u ≡ Some p) × (part_at parts p ≡ Some (h, c)) × (stands_in h x ≡ true)
       go q e None f t r = let (u, p, h, c, a, d, g, s) = r t in (u, p, h, c, omega (arith, a), d, g, s)
-      go q e (Some o) f t r = elim (or-cases (stands_in o.0 x) (stands_among (picked parts (reverse (take i order))) x) t) [
+      go q e (Some o) f t r = elim (or-split (stands_in o.0 x) (stands_among (picked parts (reverse (take i order))) x) t) [
         | inl s ↦ (i, q, o.0, o.1, omega arith, e, f, s)
         | inr s ↦ let (u, p, h, c, a, d, g, k) = r s in (u, p, h, c, omega (arith, a), d, g, k)
       ]
@@ -104,7 +105,7 @@ module _ (parts : Parts) (order : List ℕ) (x : Name) where
     where
       later : (o : Option (Header × Body)) → stands_among (picked parts (reverse (take i order))) x ≡ true → stands_among (add_part o (picked parts (reverse (take i order)))) x ≡ true
       later None t = t
-      later (Some o) t = or-right (stands_in o.0 x) (stands_among (picked parts (reverse (take i order))) x) t
+      later (Some o) t = or-second (stands_in o.0 x) (stands_among (picked parts (reverse (take i order))) x) t
 
 -- A plug whose links are used
 module _ (links : List b.Link) (held : Held) (parts : Parts) (divide : Divide (links_in links) held parts) where
@@ -155,16 +156,16 @@ module _ (links : List b.Link) (held : Held) (parts : Parts) (divide : Divide (l
           joins : (p : ℕ) (g : Header) (d : Body) → part_at parts p ≡ Some (g, d) → stands_in g m.name.name ≡ true
               → weight (λ z. times m.name.name (outputs_in z)) parts ≡ 1 → weight (λ z. times m.name.name (inputs_in z)) parts ≡ 1 → (p ≡ q → ⊥) → stands_in h m.name.name ≡ true
               → Joins (joined_by parts m) p q
-          joins p g d isp stands o n apart here = elim (or-cases (is_among m.name.name (names_of h.inputs)) (is_among m.name.name (names_of h.outputs)) here) [
+          joins p g d isp stands o n apart here = elim (or-split (is_among m.name.name (names_of h.inputs)) (is_among m.name.name (names_of h.outputs)) here) [
             | inl hi ↦
                 let a : q ≡ number_of inputs_in m.name.name parts = one-number inputs_in m.name.name parts (omega (arith, n)) q h c is hi in
-                elim (or-cases (is_among m.name.name (names_of g.inputs)) (is_among m.name.name (names_of g.outputs)) stands) [
+                elim (or-split (is_among m.name.name (names_of g.inputs)) (is_among m.name.name (names_of g.outputs)) stands) [
                   | inl gi ↦ absurd (apart (one-number inputs_in m.name.name parts (omega (arith, n)) p g d isp gi ∙ sym a))
                   | inr go ↦ inl (sym (one-number outputs_in m.name.name parts (omega (arith, o)) p g d isp go), sym a)
                 ]
             | inr ho ↦
                 let a : q ≡ number_of outputs_in m.name.name parts = one-number outputs_in m.name.name parts (omega (arith, o)) q h c is ho in
-                elim (or-cases (is_among m.name.name (names_of g.inputs)) (is_among m.name.name (names_of g.outputs)) stands) [
+                elim (or-split (is_among m.name.name (names_of g.inputs)) (is_among m.name.name (names_of g.outputs)) stands) [
                   | inl gi ↦ inr (sym a, sym (one-number inputs_in m.name.name parts (omega (arith, n)) p g d isp gi))
                   | inr go ↦ absurd (apart (one-number outputs_in m.name.name parts (omega (arith, o)) p g d isp go ∙ sym a))
                 ]
@@ -188,14 +189,14 @@ module _ (links : List b.Link) (held : Held) (parts : Parts) (divide : Divide (l
                   let here : hi ≡ h = (same-pair (hi, ci) (h, c) (sym (subst (λ k. part_at parts k ≡ Some (hi, ci)) d ati) ∙ is)).0 in
                   rw (
                     subst (λ k. stands_in k m.name.name ≡ true) here (rw ti refl),
-                    before-stands parts order m.name.name i small u p ho co (omega (arith, less, z)) pos (subst (λ k. part_at parts k ≡ Some (ho, co)) a ato) (or-right (is_among m.name.name (names_of ho.inputs)) (is_among m.name.name (names_of ho.outputs)) to),
+                    before-stands parts order m.name.name i small u p ho co (omega (arith, less, z)) pos (subst (λ k. part_at parts k ≡ Some (ho, co)) a ato) (or-second (is_among m.name.name (names_of ho.inputs)) (is_among m.name.name (names_of ho.outputs)) to),
                   ) refl
               | inr w ↦
                   let a : number_of outputs_in m.name.name parts ≡ q = ap (λ (k : Link). k.a) same ∙ w.0 in
                   let d : number_of inputs_in m.name.name parts ≡ p = ap (λ (k : Link). k.b) same ∙ w.1 in
                   let here : ho ≡ h = (same-pair (ho, co) (h, c) (sym (subst (λ k. part_at parts k ≡ Some (ho, co)) a ato) ∙ is)).0 in
                   rw (
-                    subst (λ k. stands_in k m.name.name ≡ true) here (or-right (is_among m.name.name (names_of ho.inputs)) (is_among m.name.name (names_of ho.outputs)) to),
+                    subst (λ k. stands_in k m.name.name ≡ true) here (or-second (is_among m.name.name (names_of ho.inputs)) (is_among m.name.name (names_of ho.outputs)) to),
                     before-stands parts order m.name.name i small u p hi ci (omega (arith, less, z)) pos (subst (λ k. part_at parts k ≡ Some (hi, ci)) d ati) (rw ti refl),
                   ) refl
             ],

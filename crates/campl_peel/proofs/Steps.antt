@@ -24,7 +24,9 @@ use Rattle.campl_plug.specs.TreeOrder.{tree_order_of}
 use Rattle.campl_peel.specs.Numbered.{part_at, add_part, picked, joined_parts, outputs_in, inputs_in, PlugIsTree, last_first}
 use Rattle.campl_peel.specs.Plugging.{stands_in, stands_among, links_to, side_in, without_link, held_by_rest, PluggingIsWellFormed}
 use Rattle.campl_peel.specs.Peel.{Peel, peel_by, peel_of, side_among, first_part, PeelKeepsTyping}
-use Rattle.campl_peel.proofs.Standing.{split, not-both, or-cases, among-some, among-none, stands-some, parts-none, once}
+use Rattle.campl_types.proofs.Truth.{split, no-both, or-split}
+use Rattle.campl_types.proofs.Times.{among-some, among-none, once}
+use Rattle.campl_peel.proofs.Standing.{stands-some, parts-none}
 use Rattle.campl_peel.proofs.Peeling.{link-uses, child-is-well-formed, rest-is-plug, last-is-well-formed}
 use Rattle.campl_peel.proofs.LinksLeft.{first-link, each-link, links-but, distinct-kept, one-link-kept}
 use Rattle.campl_peel.proofs.Numbers.{weight, weight-out, weight-in, weight-count, weight-all, there, names-picked, fine-picked}
@@ -114,15 +116,15 @@ side-input x (part_then h body parts) e = elim (split (stands_in h x)) [
 ]
 
 side-output : (x : Name) (parts : Parts) → times_in x parts ≡ 0 → stands_among parts x ≡ true → side_among parts x ≡ Output
-side-output x no_parts e t = absurd (not-both false t refl)
-side-output x (part_then h body parts) e t = elim (or-cases (stands_in h x) (stands_among parts x) t) [
-  | inl s ↦ rw s (elim (or-cases (is_among x (names_of h.inputs)) (is_among x (names_of h.outputs)) s) [
+side-output x no_parts e t = absurd (no-both false t refl)
+side-output x (part_then h body parts) e t = elim (or-split (stands_in h x) (stands_among parts x) t) [
+  | inl s ↦ rw s (elim (or-split (is_among x (names_of h.inputs)) (is_among x (names_of h.outputs)) s) [
     | inl i ↦ absurd (let a : 1 ≤ times x h.inputs = among-some x h.inputs i in omega (arith, a, e))
     | inr o ↦ rw o refl
   ])
   | inr s ↦ elim (split (stands_in h x)) [
     | inr out ↦ rw out (side-output x parts (omega (arith, e)) s)
-    | inl u ↦ rw u (elim (or-cases (is_among x (names_of h.inputs)) (is_among x (names_of h.outputs)) u) [
+    | inl u ↦ rw u (elim (or-split (is_among x (names_of h.inputs)) (is_among x (names_of h.outputs)) u) [
       | inl i ↦ absurd (let a : 1 ≤ times x h.inputs = among-some x h.inputs i in omega (arith, a, e))
       | inr o ↦ rw o refl
     ])
@@ -147,9 +149,9 @@ module _ (w : World) (vs : Vars) (held : Held) (links : List b.Link) (h : Header
   alone y u off e = elim (split (stands_in h y)) [
     | inr out ↦ out
     | inl here ↦ absurd (elim (split (stands_among (part_then g c more) y)) [
-      | inl t ↦ elim (or-cases (same_name y l.name.name) false (subst (λ z. is_among y (link_names z) ≡ true) one (each-link (part_then g c more) h links y u e (rw (here, t) refl)))) [
-        | inl s ↦ not-both (same_name l.name.name y) (same-turned l.name.name y ∙ s) off
-        | inr s ↦ not-both false s refl
+      | inl t ↦ elim (or-split (same_name y l.name.name) false (subst (λ z. is_among y (link_names z) ≡ true) one (each-link (part_then g c more) h links y u e (rw (here, t) refl)))) [
+        | inl s ↦ no-both (same_name l.name.name y) (same-turned l.name.name y ∙ s) off
+        | inr s ↦ no-both false s refl
       ]
       | inr t ↦
           let (a, b) = parts-none y (part_then g c more) t in

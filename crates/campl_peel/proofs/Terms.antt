@@ -15,7 +15,7 @@ use Rattle.campl_peel.specs.Plugging.{held_by_rest, PluggingIsWellFormed}
 use Rattle.campl_peel.specs.Peel.{Peel, peel_of, PeelKeepsTyping}
 use Rattle.campl_peel.specs.Trees.{PlugsAreTrees, PartsHaveTrees}
 use Rattle.campl_peel.specs.Terms.{Term, Doing, Plugging, is_plug, peel_in, left, TermIsWellFormed, TermPeels, those, held_ends}
-use Rattle.campl_peel.proofs.Standing.{split, not-both}
+use Rattle.campl_types.proofs.Truth.{split, no-both}
 use Rattle.campl_peel.proofs.Numbers.{same-pair}
 use Rattle.campl_peel.proofs.Steps.{plug-begins, count-kept, peeling-keeps-typing, peel-takes-last, last-part}
 
@@ -71,14 +71,14 @@ module _ (w : World) (vs : Vars) where
         peels (Doing (b.Plug at links parts)) links (last_first links parts) refl (plug-begins w vs held at links parts well.0 well.1.0)
         (subst (λ n. 2 ≤ n) (sym (count-kept w vs held at links parts well.0 well.1.0)) well.0.0.0)
         (trees-picked parts well.1.1 (reverse (tree_order_of (count parts) (joined_parts links parts))))
-    term-peels (Doing (b.Then a rest)) well is = absurd (not-both false is refl)
-    term-peels (Doing (b.Halt at x)) well is = absurd (not-both false is refl)
-    term-peels (Doing (b.Hcase at x rows)) well is = absurd (not-both false is refl)
-    term-peels (Doing (b.Fork at x y l z r)) well is = absurd (not-both false is refl)
-    term-peels (Doing (b.Race at rows)) well is = absurd (not-both false is refl)
-    term-peels (Doing (b.Case at a rows)) well is = absurd (not-both false is refl)
-    term-peels (Doing (b.Identity at x negated y)) well is = absurd (not-both false is refl)
-    term-peels (Doing (b.Call at x args inputs outputs)) well is = absurd (not-both false is refl)
+    term-peels (Doing (b.Then a rest)) well is = absurd (no-both false is refl)
+    term-peels (Doing (b.Halt at x)) well is = absurd (no-both false is refl)
+    term-peels (Doing (b.Hcase at x rows)) well is = absurd (no-both false is refl)
+    term-peels (Doing (b.Fork at x y l z r)) well is = absurd (no-both false is refl)
+    term-peels (Doing (b.Race at rows)) well is = absurd (no-both false is refl)
+    term-peels (Doing (b.Case at a rows)) well is = absurd (no-both false is refl)
+    term-peels (Doing (b.Identity at x negated y)) well is = absurd (no-both false is refl)
+    term-peels (Doing (b.Call at x args inputs outputs)) well is = absurd (no-both false is refl)
 
 -- Ends
 

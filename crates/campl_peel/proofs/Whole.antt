@@ -20,7 +20,7 @@ use Rattle.campl_peel.specs.Numbered.{PlugIsTree}
 use Rattle.campl_peel.specs.Plugging.{held_by_child, held_by_rest}
 use Rattle.campl_peel.specs.Peel.{Peel}
 use Rattle.campl_peel.specs.Terms.{Doing, left_behind, TermIsWellFormed, TermPeels}
-use Rattle.campl_peel.proofs.Standing.{or-neither}
+use Rattle.campl_types.proofs.Truth.{or-none}
 use Rattle.campl_plug.proofs.Faulted.{tree-exactly}
 use Rattle.campl_peel.proofs.Terms.{term-peels}
 
@@ -56,7 +56,7 @@ used x = elim (split-names x (codes "c")) [
 ]
 
 only-c : (h : Header) → ((y : Name) → same_name y (codes "c") ≡ false → share (links_in links) nothing_held h y ≡ None) → HoldsOnly (codes "c" ∷ []) (share (links_in links) nothing_held h)
-only-c h f y i = f y (or-neither (same_name y (codes "c")) false i).0
+only-c h f y i = f y (or-none (same_name y (codes "c")) false i).0
 
 fine : IsWellFormed [] [] nothing_held body
 fine = (

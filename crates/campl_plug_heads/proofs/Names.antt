@@ -1,19 +1,17 @@
 -- The names of headers in lists, sets and maps.
-use Rattle.std.proofs.Common.{◌≡◌, ◌∙◌, refl, sym, ap, subst, ◌⊎◌, inl, inr, ℕ, zero, suc, ◌+◌, arith, Bool, true, false, ◌||◌, true≢false, if◌then◌else◌, List, [], ◌∷◌, ◌++◌, Option, Some, None, map}
-use Rattle.std.proofs.lemmas.List.{map-append}
+use Rattle.std.proofs.Common.{◌≡◌, ◌∙◌, refl, ap, ◌⊎◌, inl, inr, ℕ, Bool, true, false, ◌||◌, if◌then◌else◌, List, [], ◌∷◌, ◌++◌}
 use Rattle.campl_tree.specs.declared.place.Ident.{Ident}
 use Rattle.campl_tree.proofs.Views.{view_part-out}
-use Rattle.campl_tree.specs.Plain.Process.{Header, Parts, no_parts, part_then}
-use Rattle.campl_types.specs.Names.{Name, same_name, is_among, found}
+use Rattle.campl_types.specs.Names.{Name, same_name, is_among}
 use Rattle.campl_types.specs.World.{names_of}
-use Rattle.campl_types.proofs.Names.{among-append, split-names, same-itself, or-assoc}
+use Rattle.campl_types.proofs.Names.{split-names, same-itself, or-assoc}
 use Rattle.campl_names.specs.NameSet.{HaveSame, with_name}
 use Rattle.campl_names.specs.Scope.{with_names}
 use Rattle.campl_names.proofs.Declared.{among-behind}
 use Rattle.campl_names.proofs.Scopes.{with-append}
 use Rattle.indexmap.specs.IndexMap.{insert_entry}
 use Rattle.campl_names.proofs.Sets.{lookup-found, some-among, entry-behind}
-use Rattle.campl_plug_heads.specs.Heads.{Numbered, names_in, marked, numbered, all_names}
+use Rattle.campl_plug_heads.specs.Heads.{Numbered, names_in, marked}
 
 or-turn : (a b c : Bool) → (a || (b || c)) ≡ (b || (a || c))
 or-turn true true c = refl

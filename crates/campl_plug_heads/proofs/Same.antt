@@ -1,5 +1,5 @@
 -- What is judged of a name beside others depends on which these are alone.
-use Rattle.std.proofs.Common.{◌≡◌, ◌∙◌, refl, sym, ap, ℕ, Bool, true, false, ◌||◌, true≢false, if◌then◌else◌, List, [], ◌∷◌, ◌++◌, Option, Some, None, is_some, map}
+use Rattle.std.proofs.Common.{◌≡◌, ◌∙◌, refl, sym, ap, Bool, true, false, ◌||◌, true≢false, if◌then◌else◌, List, [], ◌∷◌, ◌++◌, Option, Some, None, is_some}
 use Rattle.campl_tree.specs.declared.place.Ident.{Ident}
 use Rattle.campl_tree.specs.declared.service.Side.{Side}
 use Rattle.campl_tree.specs.declared.service.Side.TheVariants.{Input, Output}
@@ -7,7 +7,7 @@ use Rattle.campl_tree.specs.Plain.ChanType.{ChanType, TopBot}
 use Rattle.campl_tree.specs.Plain.Process.{Body, Link, Header, Parts, no_parts, part_then}
 use Rattle.campl_types.specs.Names.{Name, same_name, is_among, found}
 use Rattle.campl_types.specs.World.{names_of}
-use Rattle.campl_types.specs.Held.{Channel, On}
+use Rattle.campl_types.specs.Held.{Channel}
 use Rattle.campl_types.specs.Headers.{Links, links_in, link_names}
 use Rattle.campl_types.proofs.Names.{among-append}
 use Rattle.campl_names.specs.NameSet.{HaveSame}
@@ -88,7 +88,7 @@ headers-same f g held a b c d (part_then h body parts) k i j =
     headers-step f held a c h body parts
     ∙ ap (λ (z : Judged LinFault Fine). and_then z (λ _. headers_stand f held (names_of h.inputs ++ a) (names_of h.outputs ++ c) parts)) (header-same f g held a b c d h k i j)
     ∙ ap (λ (z : Judged LinFault Fine). and_then (header_stands g held b d h) (λ _. z))
-        (headers-same f g held (names_of h.inputs ++ a) (names_of h.inputs ++ b) (names_of h.outputs ++ c) (names_of h.outputs ++ d) parts k (same-behind (names_of h.inputs) a b i) (same-behind (names_of h.outputs) c d j))
+    (headers-same f g held (names_of h.inputs ++ a) (names_of h.inputs ++ b) (names_of h.outputs ++ c) (names_of h.outputs ++ d) parts k (same-behind (names_of h.inputs) a b i) (same-behind (names_of h.outputs) c d j))
     ∙ sym (headers-step g held b d h body parts)
 
 -- a plug's links, and their names alone

@@ -1,5 +1,5 @@
 -- What a part holds.
-use Rattle.std.proofs.Common.{◌≡◌, ◌∙◌, refl, sym, ap, subst, ℕ, ◌+◌, ◌<◌, ◌≤◌, Bool, true, false, not, ◌||◌, ◌&&◌, true≢false, if◌then◌else◌, List, [], ◌∷◌, ◌++◌, append_assoc, append-nil, map, drop, length, get_or, Option, Some, None}
+use Rattle.std.proofs.Common.{◌≡◌, ◌∙◌, refl, sym, ap, subst, ℕ, ◌+◌, ◌<◌, ◌≤◌, Bool, true, false, not, ◌||◌, if◌then◌else◌, List, [], ◌∷◌, ◌++◌, append_assoc, append-nil, map, drop, length, get_or, Option, Some, None}
 use Rattle.std.proofs.Math.Path.{fun_ext}
 use Rattle.std.proofs.lemmas.List.{drop_all}
 use Rattle.campl_tree.specs.declared.service.Side.{Side}
@@ -9,11 +9,10 @@ use Rattle.campl_tree.specs.Plain.Process.{Link, Header}
 use Rattle.campl_tree.specs.View.{view_link}
 use Rattle.campl_types.specs.Names.{Name, same_name, is_among, are_distinct, found}
 use Rattle.campl_types.specs.World.{names_of, or_else}
-use Rattle.campl_types.specs.Held.{Channel, On}
+use Rattle.campl_types.specs.Held.{On}
 use Rattle.campl_types.specs.Headers.{link_names}
 use Rattle.campl_types.proofs.Names.{same-is, same-itself, among-append}
 use Rattle.campl_types.proofs.Truth.{and-first, and-second, not-true, or-first, or-second, no-both}
-use Rattle.campl_types.proofs.Among.{DistinctFrom}
 use Rattle.campl_names.specs.NameSet.{HaveSame}
 use Rattle.campl_names.specs.Scope.{with_names}
 use Rattle.campl_seqcheck.specs.Judged.{fine, Is}
@@ -90,7 +89,7 @@ module _ (h : Header) (outputs names : List Name) (o : HaveSame outputs (names_o
   ends-are (l ∷ ls) =
       ap (λ (z : Bool). held_end l (if z then Some Output else (if is_among l.name.name names then Some Input else None)) ++ ends_in outputs names ls) (o l.name.name)
       ∙ ap (λ (z : Bool). held_end l (if is_among l.name.name (names_of h.outputs) then Some Output else (if z then Some Input else None)) ++ ends_in outputs names ls)
-          (n l.name.name ∙ among-append l.name.name (names_of h.outputs) (names_of h.inputs))
+      (n l.name.name ∙ among-append l.name.name (names_of h.outputs) (names_of h.inputs))
       ∙ go (is_among l.name.name (names_of h.outputs)) (is_among l.name.name (names_of h.inputs)) (ends-are ls)
     where
       go : (a b : Bool) → ends_in outputs names ls ≡ ends_of h ls

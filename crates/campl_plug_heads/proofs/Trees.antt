@@ -1,26 +1,24 @@
 -- The parts that links join, and the tree that they form or don't.
-use Rattle.std.proofs.Common.{◌≡◌, ◌∙◌, refl, sym, ap, subst, ℕ, zero, suc, ◌+◌, ◌≤◌, arith, Bool, true, false, ◌||◌, if◌then◌else◌, List, [], ◌∷◌, ◌++◌, Option, Some, None, option_map, map, length, slice_get}
+use Rattle.std.proofs.Common.{◌≡◌, ◌∙◌, refl, ap, subst, ℕ, zero, suc, ◌+◌, ◌≤◌, arith, Bool, true, false, ◌||◌, if◌then◌else◌, List, [], ◌∷◌, ◌++◌, Some, option_map, map, length, slice_get}
 use Rattle.std.specs.Prelude.{All, ◌≢◌}
 use Rattle.std.proofs.lemmas.List.Elements.{recursion_from_All}
 use Rattle.campl_plug.specs.declared.plug.Link as numbers
 use Rattle.campl_plug.specs.declared.plug.PlugFault.{PlugFault}
 use Rattle.campl_plug.specs.declared.plug.PlugFault.TheVariants as plug
 use Rattle.campl_plug.specs.Links.{IsWithin}
-use Rattle.campl_plug.specs.Tree.{IsTree, HasNoCycle, IsFirstCycle, IsLeastApart}
+use Rattle.campl_plug.specs.Tree.{IsTree}
 use Rattle.campl_plug.specs.Faults.{IsFaultOf}
-use Rattle.campl_plug.specs.FirstFault.{fault_of}
 use Rattle.campl_plug.proofs.Faulted.{tree-exactly, fault-exactly}
 use Rattle.campl_tree.specs.declared.place.Ident.{Ident}
 use Rattle.campl_tree.specs.declared.process.Link as code
 use Rattle.campl_tree.specs.declared.process.Part.{Part}
-use Rattle.campl_tree.specs.Plain.Process.{Link, Header, Body, Parts, no_parts, part_then}
+use Rattle.campl_tree.specs.Plain.Process.{Link, Header, Parts, no_parts, part_then}
 use Rattle.campl_tree.specs.View.{view_link, view_part, parts}
 use Rattle.campl_types.specs.Names.{Name, same_name, is_among, found}
 use Rattle.campl_types.specs.World.{names_of}
 use Rattle.campl_types.specs.Headers.{count}
 use Rattle.campl_peel.specs.Numbered.{one_up, number_of, inputs_in, outputs_in, joined_by, joined_parts, part_at}
-use Rattle.campl_seqcheck.specs.Judged.{Fine, fine, Judged, Is}
-use Rattle.campl_linear.specs.Faults.{LinFault}
+use Rattle.campl_seqcheck.specs.Judged.{fine, Is}
 use Rattle.campl_linear.specs.Plugs.{in_cycle, is_apart, tree_fault, parts_form_tree}
 use Rattle.campl_plug_heads.specs.Heads.{Numbered, or_zero, number_in, marked, numbered, joined_in}
 

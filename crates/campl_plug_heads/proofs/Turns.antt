@@ -1,12 +1,11 @@
 -- What is judged from where a loop stands.
-use Rattle.std.proofs.Common.{◌≡◌, ◌∙◌, refl, sym, ap, subst, ℕ, zero, suc, ◌+◌, ◌<◌, ◌≤◌, Bool, true, false, ◌||◌, ◌&&◌, true≢false, if◌then◌else◌, List, [], ◌∷◌, ◌++◌, append_assoc, append-nil, map, drop, length, get_or, arith}
+use Rattle.std.proofs.Common.{◌≡◌, ◌∙◌, refl, sym, ap, subst, ℕ, ◌+◌, ◌<◌, ◌≤◌, Bool, true, false, ◌||◌, List, [], ◌∷◌, ◌++◌, append_assoc, append-nil, map, drop, length, get_or}
 use Rattle.std.proofs.lemmas.List.{drop_more, drop_all}
-use Rattle.campl_plug.specs.declared.plug.Link as numbers
 use Rattle.campl_tree.specs.declared.place.Ident.{Ident}
 use Rattle.campl_tree.specs.declared.process.Link as code
 use Rattle.campl_tree.specs.declared.process.Part.{Part}
 use Rattle.campl_tree.specs.declared.service.Side.{Side}
-use Rattle.campl_tree.specs.Plain.Process.{Link, Header, Parts}
+use Rattle.campl_tree.specs.Plain.Process.{Header}
 use Rattle.campl_tree.specs.View.{view_link, view_part, parts}
 use Rattle.campl_types.specs.Names.{Name, same_name, is_among, found}
 use Rattle.campl_types.specs.World.{names_of}
@@ -16,7 +15,7 @@ use Rattle.campl_types.proofs.Truth.{or-none}
 use Rattle.campl_names.specs.NameSet.{HaveSame, with_name}
 use Rattle.campl_names.specs.Scope.{with_names}
 use Rattle.campl_names.proofs.Scopes.{with-append}
-use Rattle.campl_seqcheck.specs.Judged.{Fine, fine, Judged, Is, Fails, and_then}
+use Rattle.campl_seqcheck.specs.Judged.{Fine, fine, Judged, Is, and_then}
 use Rattle.campl_linear.specs.Faults as plain
 use Rattle.campl_linear.specs.Holding.{Holding}
 use Rattle.campl_linear.specs.Channels.{new_name}
@@ -50,7 +49,7 @@ module _ (held : Holding) (links : List code.Link) (i : ℕ) where
       ap (λ ls. links_are_new held seen (map view_link ls)) (drop-at links i l n is)
       ∙ regroup (new_name l.name held) (stands_once l.name seen) (links_are_new held (l.name.name ∷ seen) (map view_link (drop (i + 1) links)))
       ∙ ap (λ (z : Judged plain.LinFault Fine). and_then (link_stands held seen l.name) (λ _. z))
-          (links-same held (l.name.name ∷ seen) (with_name l.name.name seen) (map view_link (drop (i + 1) links)) (λ y. sym (among-names y seen (l.name.name ∷ []) ∙ first y)))
+      (links-same held (l.name.name ∷ seen) (with_name l.name.name seen) (map view_link (drop (i + 1) links)) (λ y. sym (among-names y seen (l.name.name ∷ []) ∙ first y)))
     where
       first : (y : Name) → (is_among y (l.name.name ∷ []) || is_among y seen) ≡ (same_name y l.name.name || is_among y seen)
       first y = go (same_name y l.name.name)
@@ -98,7 +97,7 @@ module _ (f : Links) (held : Holding) (s : Side) (also : List Name) (xs : List I
       ap (names_stand f held s (also ++ names_in before)) (drop-at xs i x l is)
       ∙ regroup (may_stand x s (f x.name) (found x.name held)) (stands_once x (also ++ names_in before)) (names_stand f held s (x.name ∷ (also ++ names_in before)) (drop (i + 1) xs))
       ∙ ap (λ (z : Judged plain.LinFault Fine). and_then (name_stands f held s (also ++ names_in before) x) (λ _. z))
-          (names-same f f held s (x.name ∷ (also ++ names_in before)) (also ++ names_in (before ++ (x.name, n) ∷ [])) (drop (i + 1) xs) (λ y. refl) same)
+      (names-same f f held s (x.name ∷ (also ++ names_in before)) (also ++ names_in (before ++ (x.name, n) ∷ [])) (drop (i + 1) xs) (λ y. refl) same)
     where
       same : HaveSame (x.name ∷ (also ++ names_in before)) (also ++ names_in (before ++ (x.name, n) ∷ []))
       same y =
@@ -119,7 +118,7 @@ marked-end xs i before n l = ap (λ ys. before ++ marked n ys) (drop_all i xs l)
 pub own-stand : (f : Links) (held : Holding) (s : Side) (own ins before : List Name) (xs : List Ident) → own ≡ with_names [] ins → names_stand f held s (ins ++ before) xs ≡ names_stand f held s (own ++ before) xs
 own-stand f held s own ins before xs i =
     names-same f f held s (ins ++ before) (own ++ before) xs (λ y. refl)
-        (λ y. among-append y ins before ∙ ap (λ z. z || is_among y before) (sym (ap (is_among y) i ∙ same-set ins y)) ∙ sym (among-append y own before))
+    (λ y. among-append y ins before ∙ ap (λ z. z || is_among y before) (sym (ap (is_among y) i ∙ same-set ins y)) ∙ sym (among-append y own before))
 
 -- Headers
 
@@ -127,14 +126,14 @@ module _ (f : Links) (held : Holding) (ps : List Part) (i : ℕ) where
   pub headers-at : (ins outs : Numbered) (n : ℕ) (p : Part) → i < length ps → p ≡ get_or ps i p
       → headers_stand f held (names_in ins) (names_in outs) (parts (map view_part (drop i ps)))
       ≡ and_then (header_stands f held (names_in ins) (names_in outs) (view_part p).0) (λ _.
-          headers_stand f held (names_in (ins ++ marked n (view_part p).0.inputs)) (names_in (outs ++ marked n (view_part p).0.outputs)) (parts (map view_part (drop (i + 1) ps))))
+      headers_stand f held (names_in (ins ++ marked n (view_part p).0.inputs)) (names_in (outs ++ marked n (view_part p).0.outputs)) (parts (map view_part (drop (i + 1) ps))))
   headers-at ins outs n p l is =
       ap (λ qs. headers_stand f held (names_in ins) (names_in outs) (parts (map view_part qs))) (drop-at ps i p l is)
       ∙ headers-step f held (names_in ins) (names_in outs) (view_part p).0 (view_part p).1 (parts (map view_part (drop (i + 1) ps)))
       ∙ ap (λ (z : Judged plain.LinFault Fine). and_then (header_stands f held (names_in ins) (names_in outs) (view_part p).0) (λ _. z))
-          (headers-same f f held (names_of (view_part p).0.inputs ++ names_in ins) (names_in (ins ++ marked n (view_part p).0.inputs))
-              (names_of (view_part p).0.outputs ++ names_in outs) (names_in (outs ++ marked n (view_part p).0.outputs)) (parts (map view_part (drop (i + 1) ps)))
-              (λ y. refl) (same ins (view_part p).0.inputs) (same outs (view_part p).0.outputs))
+      (headers-same f f held (names_of (view_part p).0.inputs ++ names_in ins) (names_in (ins ++ marked n (view_part p).0.inputs))
+      (names_of (view_part p).0.outputs ++ names_in outs) (names_in (outs ++ marked n (view_part p).0.outputs)) (parts (map view_part (drop (i + 1) ps)))
+      (λ y. refl) (same ins (view_part p).0.inputs) (same outs (view_part p).0.outputs))
     where
       same : (es : Numbered) (xs : List Ident) → HaveSame (names_of xs ++ names_in es) (names_in (es ++ marked n xs))
       same es xs y = same-turned (names_of xs) (names_in es) y ∙ ap (is_among y) (ap (λ z. names_in es ++ z) (sym (names-marked n xs)) ∙ sym (names-append es (marked n xs)))

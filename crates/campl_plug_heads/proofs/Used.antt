@@ -1,24 +1,24 @@
 -- Links that are used twice, and held channels that are used.
-use Rattle.std.proofs.Common.{◌≡◌, ◌∙◌, ◌⊎◌, inl, inr, refl, sym, ap, subst, ℕ, zero, suc, ◌+◌, ◌≤◌, arith, nat_le, Bool, true, false, not, ◌||◌, ◌&&◌, if◌then◌else◌, List, [], ◌∷◌, ◌++◌, true≢false}
+use Rattle.std.proofs.Common.{◌≡◌, ◌∙◌, inl, inr, refl, sym, ap, ℕ, ◌+◌, ◌≤◌, arith, nat_le, Bool, true, false, not, ◌||◌, ◌&&◌, if◌then◌else◌, List, [], ◌∷◌, ◌++◌, true≢false}
 use Rattle.std.proofs.lemmas.Bool.{le-leb, leb-true}
 use Rattle.campl_tree.specs.declared.place.Place.{Place}
 use Rattle.campl_tree.specs.declared.place.Ident.{Ident}
-use Rattle.campl_tree.specs.declared.service.Side.TheVariants.{Input, Output}
 use Rattle.campl_tree.specs.Plain.Process.{Link, Header, Parts, no_parts, part_then}
 use Rattle.campl_types.specs.Names.{Name, is_among}
 use Rattle.campl_types.specs.World.{names_of}
-use Rattle.campl_types.specs.Headers.{Links, links_in, times, times_in, times_out}
+use Rattle.campl_types.specs.Headers.{Links, times, times_in, times_out}
 use Rattle.campl_types.proofs.Names.{among-append}
+use Rattle.campl_types.proofs.Times.{among-some, among-none}
 use Rattle.campl_types.proofs.Truth.{or-split, or-none}
 use Rattle.campl_peel.specs.Numbered.{inputs_in, outputs_in}
 use Rattle.campl_names.specs.NameSet.{HaveSame}
 use Rattle.campl_names.specs.Scope.{with_names}
-use Rattle.campl_seqcheck.specs.Judged.{Fine, fine, Judged, Is, Fails, and_then}
-use Rattle.campl_linear.specs.Faults.{LinFault, PlugUse, LeftOver}
+use Rattle.campl_seqcheck.specs.Judged.{fine, Is, Fails, and_then}
+use Rattle.campl_linear.specs.Faults.{PlugUse, LeftOver}
 use Rattle.campl_linear.specs.Holding.{Holding, those}
 use Rattle.campl_linear.specs.Channels.{none_left}
 use Rattle.campl_linear.specs.Plugs.{uses, links_are_used, all_are_used}
-use Rattle.campl_linear.proofs.Standing.{among-some, among-none, on, on-in, on-out}
+use Rattle.campl_linear.proofs.Standing.{on, on-in, on-out}
 use Rattle.campl_linear.proofs.Headers.{Stand}
 use Rattle.campl_plug_heads.specs.Heads.{Numbered, names_in, marked, numbered, all_names, links_join}
 use Rattle.campl_plug_heads.proofs.Names.{names-marked, names-append, same-set}
@@ -77,9 +77,9 @@ module _ (links : Links) (held : Holding) (parts : Parts) (stand : Stand links h
           → ((a && b) ≡ true → 2 ≤ times_in x parts + times_out x parts) × ((a && b) ≡ false → 2 ≤ times_in x parts + times_out x parts → ⊥)
       go true i true j = (
         (λ k.
-          let m : 1 ≤ on inputs_in x parts = stands-some inputs_in x 1 parts i in
-          let n : 1 ≤ on outputs_in x parts = stands-some outputs_in x 1 parts j in
-          omega (arith, ins, outs, m, n)),
+            let m : 1 ≤ on inputs_in x parts = stands-some inputs_in x 1 parts i in
+            let n : 1 ≤ on outputs_in x parts = stands-some outputs_in x 1 parts j in
+            omega (arith, ins, outs, m, n)),
         (λ k. absurd (true≢false k)),
       )
       go true i false j = ((λ k. absurd (true≢false (sym k))), (λ k l. let n : on outputs_in x parts ≡ 0 = stands-none outputs_in x 1 parts j in omega (arith, ins, outs, ins-most, n, l)))

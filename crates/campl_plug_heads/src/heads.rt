@@ -13,10 +13,10 @@ ghost use Rattle.campl_held.specs.Answered.{Answers};
 ghost use Rattle.campl_held.specs.Slots.{view_held};
 ghost use Rattle.campl_plug_heads.specs.Heads.{header_stands, links_named, marked, name_stands, names_in, numbered};
 
-use crate::links::{misused, Ends};
+use crate::links::{Ends, misused};
 use crate::numbers::Numbers;
 use crate::sets::inputs_of;
-use campl_held::{not_held, Held, LinFault};
+use campl_held::{Held, LinFault, not_held};
 use campl_names::NameSet;
 use campl_tree::{Ident, Part, Side};
 use std::alloc::Global;
@@ -126,7 +126,15 @@ fn inputs_stand(
     ensures added { OnOk result (before.new ≡ before.old ++ marked number (view_part part.now).0.inputs) }
 {
     let none = NameSet::new(alloc);
-    names_stand(alloc, around, Side::Input, &none, before, number, part.inputs.as_slice())
+    names_stand(
+        alloc,
+        around,
+        Side::Input,
+        &none,
+        before,
+        number,
+        part.inputs.as_slice(),
+    )
 }
 
 /// Judges the outputs of a part, which differ from its inputs.
@@ -145,7 +153,15 @@ fn outputs_stand(
         Ok(own) => own,
         Err(_) => return Err(LinFault::OutOfMemory),
     };
-    names_stand(alloc, around, Side::Output, &own, before, number, part.outputs.as_slice())
+    names_stand(
+        alloc,
+        around,
+        Side::Output,
+        &own,
+        before,
+        number,
+        part.outputs.as_slice(),
+    )
 }
 
 /// Judges the header of part `number`, and puts its names behind those of the parts before.
@@ -174,7 +190,11 @@ fn header_stands(
 ///
 /// At the first name in its way, inputs of a header first: `NotHeld` where it is neither held nor a link; `PlugUse`
 /// where it is held on the other side, stood on this side before, or stands on both sides of one header.
-pub(crate) fn headers_stand(alloc: Global, around: &Around<'_>, parts: &[Part]) -> Result<Ends, LinFault>
+pub(crate) fn headers_stand(
+    alloc: Global,
+    around: &Around<'_>,
+    parts: &[Part],
+) -> Result<Ends, LinFault>
     requires { length parts.now ≤ 64 }
     ensures judged { Answers (λ _. fine) (headers_stand (links_named around.now.links.now) (view_held around.now.held.now) [] [] (part_list (map view_part parts.now))) result }
     ensures inputs { IfOk result (λ e. e.inputs ≡ numbered inputs_in 1 (part_list (map view_part parts.now))) }

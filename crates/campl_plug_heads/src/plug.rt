@@ -1,17 +1,17 @@
 //! The steps of a plug, in turn.
 ghost use Rattle.std.specs.Prelude.{◌≡◌, ◌≤◌, [], OnOk, length, map};
 ghost use Rattle.campl_tree.specs.View.{view_link, view_part, parts as part_list};
-ghost use Rattle.campl_types.specs.Headers.{count, links_in, link_names};
+ghost use Rattle.campl_types.specs.Headers.{count, link_names};
 ghost use Rattle.campl_peel.specs.Numbered.{inputs_in, outputs_in};
 ghost use Rattle.campl_names.specs.Scope.{with_names};
-ghost use Rattle.campl_seqcheck.specs.Judged.{Fine, Is, and_then, fine};
-ghost use Rattle.campl_linear.specs.Plugs.{part_count, links_are_new, headers_stand, links_are_used, all_are_used, parts_form_tree, plug_stands};
+ghost use Rattle.campl_seqcheck.specs.Judged.{fine};
+ghost use Rattle.campl_linear.specs.Plugs.{part_count, links_are_new, headers_stand, all_are_used, parts_form_tree, plug_stands};
 ghost use Rattle.campl_held.specs.Answered.{Answers};
 ghost use Rattle.campl_held.specs.Slots.{view_held};
 ghost use Rattle.campl_plug_heads.specs.Heads.{numbered, ends_stand, heads_stand, LinksStand, HeadersStand};
 
-use crate::heads::{headers_stand, Around};
-use crate::links::{links_are_new, links_join, Ends};
+use crate::heads::{Around, headers_stand};
+use crate::links::{Ends, links_are_new, links_join};
 use crate::tree::parts_form_tree;
 use crate::uses::all_are_used;
 use campl_held::{Held, LinFault};

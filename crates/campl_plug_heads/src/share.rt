@@ -67,12 +67,7 @@ fn add_ends(
 /// # Errors
 ///
 /// `AllocError` for want of memory.
-pub fn share_of(
-    alloc: Global,
-    links: &[Link],
-    held: &Held,
-    part: &Part,
-) -> Result<Held, AllocError>
+pub fn share_of(alloc: Global, links: &[Link], held: &Held, part: &Part) -> Result<Held, AllocError>
     requires { LinksStand (map view_link links.now) (view_held held.now) }
     ensures { IfOk result (λ share. view_held share ≡ share_of (map view_link links.now) (view_held held.now) (view_part part.now).0) }
 {

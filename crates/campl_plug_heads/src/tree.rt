@@ -12,7 +12,7 @@ ghost use Rattle.campl_plug_heads.specs.Heads.{joined_in, numbered};
 
 use crate::links::Ends;
 use campl_held::LinFault;
-use campl_plug::{tree_order, PlugFault};
+use campl_plug::{PlugFault, tree_order};
 use campl_tree::{Link, Part};
 use std::alloc::{AllocError, Global};
 
@@ -64,7 +64,6 @@ fn apart(part: &Part, number: usize) -> LinFault
 }
 
 /// That a part, by its number from 1, is apart from the first.
-#[tactic(auto, using(crate::proofs::Told::trees, crate::proofs::Told::refusals))]
 fn is_apart(parts: &[Part], number: usize) -> LinFault
     ensures { Refused (is_apart number (part_at (part_list (map view_part parts.now)) number)) result }
 {

@@ -7,7 +7,7 @@ ghost use Rattle.campl_held.specs.Answered.{Answers};
 ghost use Rattle.campl_held.specs.Slots.{view_held};
 
 use crate::sets::all_names;
-use campl_held::{none_left, Held, LinFault};
+use campl_held::{Held, LinFault, none_left};
 use campl_tree::{Part, Place};
 use std::alloc::Global;
 

@@ -115,10 +115,6 @@ waits-if w s u h = go (deed w s u) h (alike w s u)
 
 -- Rows
 
-and-both : (a b : Bool) → (a && b) ≡ true → (a ≡ true) × (b ≡ true)
-and-both true b i = (refl, i)
-and-both false b i = absurd (true≢false (sym i))
-
 and-true : (a : Bool) → a ≡ true → (a && true) ≡ true
 and-true a i = rw i refl
 

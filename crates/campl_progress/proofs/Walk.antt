@@ -12,12 +12,13 @@ use Rattle.campl_types.specs.World.{World, world_of}
 use Rattle.campl_types.specs.Views.{turned}
 use Rattle.campl_service.specs.declared.phase.Phase.{Phase}
 use Rattle.campl_service.specs.declared.phase.Phase.TheVariants as phase
-use Rattle.campl_meaning.specs.States.{Message, Word, Pick, EndPair, State, Runs, Serves}
+use Rattle.campl_meaning.specs.States.{Message, State, Runs, Serves}
 use Rattle.campl_meaning.specs.Reductions.{Configuration, act_of}
 use Rattle.campl_meaning.specs.Ends.{IsEnabled, HasNoProcess, HasProcess, NeverActs, IsBrokenAt, IsAsked, Finished, Broken, Awaiting, IsEnd}
 use Rattle.campl_meaning.specs.Views.{TakesAll}
-use Rattle.campl_meaning.specs.Apart.{Place, At, In, Gone, IsCarried, IsJoined, IsOfKind, Node, Holder, Pair, owes_pair, node_of, graph}
+use Rattle.campl_meaning.specs.Apart.{Place, At, In, Gone, IsJoined, IsOfKind, Node, Holder, Pair, owes_pair, node_of, graph}
 use Rattle.campl_meaning.specs.Lawful.{Lawful, Agree, seen}
+use Rattle.campl_meaning.proofs.Pairs.{the-pair, carried-owes}
 use Rattle.campl_progress.proofs.Waits.{Waits, not-both-wait, takes-waits, still, IsOver, over-is-still, over-turned}
 use Rattle.campl_progress.proofs.Acts.{IsReceipt, Answers}
 use Rattle.campl_progress.proofs.Takes.{MayStand, MayBreak, may, node-answers, takes-first}
@@ -87,21 +88,6 @@ within-map f x (y ∷ xs) (inl i) = inl (ap f i)
 within-map f x (y ∷ xs) (inr i) = inr (within-map f x xs i)
 
 -- Pairs
-
-carried-owes : (ms : List Message) (e : End) → IsCarried ms e → owes_pair ms ≡ true
-carried-owes [] e i = absurd i
-carried-owes (Word v ∷ ms) e i = carried-owes ms e i
-carried-owes (Pick n ∷ ms) e i = carried-owes ms e i
-carried-owes (EndPair f g ∷ ms) e i = refl
-
-abbrev HasPair : List Message → Type 0
-HasPair ms = (e : End) × (f : End) × (before : List Message) × (after : List Message) × (ms ≡ before ++ (EndPair e f ∷ after))
-
-pair-in : (ms : List Message) → owes_pair ms ≡ true → HasPair ms
-pair-in [] i = absurd (true≢false (sym i))
-pair-in (Word v ∷ ms) i = let (e, f, before, after, q) = pair-in ms i in (e, f, Word v ∷ before, after, ap (λ z. Word v ∷ z) q)
-pair-in (Pick n ∷ ms) i = let (e, f, before, after, q) = pair-in ms i in (e, f, Pick n ∷ before, after, ap (λ z. Pick n ∷ z) q)
-pair-in (EndPair e f ∷ ms) i = (e, f, [], ms, refl)
 
 owes-some : (ms : List Message) → owes_pair ms ≡ true → (m : Message) × (more : List Message) × (ms ≡ m ∷ more)
 owes-some [] i = absurd (true≢false (sym i))
@@ -203,8 +189,8 @@ module _ (source : Program) (c : Configuration) (l : Lawful source c) (quiet : I
 
   pair-there : (z : End) → owes_pair (c.owed z) ≡ true → IsPair z
   pair-there z i =
-      let (e, f, before, after, q) = pair-in (c.owed z) i in
-      let up = l.pairs.given_up z e f before after q in
+      let h = the-pair (c.owed z) i in
+      let up = l.pairs.given_up z h.one h.other h.before h.after h.is in
       go (c.partner z) refl up
     where
       go : (o : Option End) → c.partner z ≡ o → (l.place z ≡ Gone) × (l.channel z ≡ None) → IsPair z

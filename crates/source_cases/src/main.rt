@@ -53,7 +53,10 @@ fn judge_source(
     phase: Phase,
     source: &Text,
 ) -> std::result::Result<&'static str, Refusal> {
-    let program = tree_of(alloc, source)?;
+    let program = match tree_of(alloc, source) {
+        Ok(program) => program,
+        Err(fault) => return Err(Refusal::of_text(fault)),
+    };
     match phase {
         Phase::Grammar => Ok("tree"),
         Phase::Names => {

@@ -1,6 +1,7 @@
 //! Runs that compute: worked sources from their trees to their transcripts, ends and bytes.
 //!
-//! `proofs/Runs` runs each source of `typed_sources` that takes at most 30 steps, one at a time; `Accepted` judges sources
+//! `proofs/Runs` runs each source of `typed_sources` that takes at most 30 steps, one at a time; `Orders` runs them in other orders, to
+//! the same transcripts; `Bytes` has what is printed where a script is spent or a value is too deep, `Journal` a journal; `Accepted` judges sources
 //! accepted, so that the laws of `campl_laws` are of these; `Hello` says by them what each run of one source prints. `Endless`
 //! and `ClosedLost` show why a lawful configuration lists its ends, and why it doesn't say that channels' types are closed.
 #![tactic(auto)]

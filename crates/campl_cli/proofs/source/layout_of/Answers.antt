@@ -8,7 +8,7 @@ use Rattle.campl_cli.proofs.source.layout_of.Goals as goal
 pub returns-clause-laid : goal.returns-clause-laid
 returns-clause-laid c =
     let told = rw (c.deref.ensures.value, c.end_of.ensures) at c.in-Err.ensures.laid in
-    rw c.refusal_of.ensures (layout_refuses c.args.text.now c.in_ok-tokens.tokens.items c.in-Err.fault c.in_ok-tokens.ensures.tokens told)
+    rw c.tree_fault.ensures (layout_refuses c.args.text.now c.in_ok-tokens.tokens.items c.in-Err.fault c.in_ok-tokens.ensures.tokens told)
 
 pub returns-in-Ok-clause-cut : goal.returns-in-Ok-clause-cut
 returns-in-Ok-clause-cut c =

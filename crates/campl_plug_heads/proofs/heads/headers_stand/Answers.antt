@@ -1,7 +1,7 @@
 use Rattle.std.proofs.Common.{◌∙◌, ◌+◌, sym}
 use Rattle.campl_peel.specs.Numbered.{inputs_in, outputs_in}
 use Rattle.campl_held.specs.Slots.{view_held}
-use Rattle.campl_plug_heads.specs.Heads.{links_named, names_in}
+use Rattle.campl_plug_heads.specs.Heads.{links_named}
 use Rattle.campl_plug_heads.proofs.Turns.{went, halted, headers-at, headers-end, numbered-at, numbered-end}
 use Rattle.campl_plug_heads.proofs.heads.headers_stand.Goals as goal
 
@@ -18,8 +18,8 @@ loop-i-preserved c =
 pub returns-in-Err-clause-judged : goal.returns-in-Err-clause-judged
 returns-in-Err-clause-judged c =
     halted _ _ _ _ _ c.in-Err.ensures.judged
-        (headers-at (links_named c.args.around.now.links.now) (view_held c.args.around.now.held.now) c.args.parts.now c.loop-i.i c.loop-i.ends.inputs c.loop-i.ends.outputs (c.loop-i.i + 1) c.index-parts-i.result c.loop-i-test.true c.index-parts-i.is)
-        c.loop-i.invariant.0
+    (headers-at (links_named c.args.around.now.links.now) (view_held c.args.around.now.held.now) c.args.parts.now c.loop-i.i c.loop-i.ends.inputs c.loop-i.ends.outputs (c.loop-i.i + 1) c.index-parts-i.result c.loop-i-test.true c.index-parts-i.is)
+    c.loop-i.invariant.0
 
 pub returns-clause-judged : goal.returns-clause-judged
 returns-clause-judged c =

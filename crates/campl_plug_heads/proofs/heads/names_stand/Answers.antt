@@ -1,6 +1,6 @@
 use Rattle.std.proofs.Common.{◌∙◌, sym}
 use Rattle.campl_held.specs.Slots.{view_held}
-use Rattle.campl_plug_heads.specs.Heads.{links_named, names_in}
+use Rattle.campl_plug_heads.specs.Heads.{links_named}
 use Rattle.campl_plug_heads.proofs.Turns.{went, halted, once-before, names-at, names-end, marked-at, marked-end}
 use Rattle.campl_plug_heads.proofs.heads.names_stand.Goals as goal
 
@@ -19,8 +19,8 @@ loop-i-preserved c =
 pub returns-in-Err-clause-judged : goal.returns-in-Err-clause-judged
 returns-in-Err-clause-judged c =
     halted _ _ _ _ _ c.in-Err.ensures
-        (names-at (links_named c.args.around.now.links.now) (view_held c.args.around.now.held.now) c.args.side c.args.also.now c.args.xs.now c.loop-i.i c.loop-i.before c.args.number c.index-xs-i.result c.loop-i-test.true c.index-xs-i.is)
-        c.loop-i.invariant.0
+    (names-at (links_named c.args.around.now.links.now) (view_held c.args.around.now.held.now) c.args.side c.args.also.now c.args.xs.now c.loop-i.i c.loop-i.before c.args.number c.index-xs-i.result c.loop-i-test.true c.index-xs-i.is)
+    c.loop-i.invariant.0
 
 pub returns-clause-judged : goal.returns-clause-judged
 returns-clause-judged c =

@@ -1,4 +1,4 @@
-use Rattle.std.proofs.Common.{◌≡◌, ◌∙◌, sym, ap, subst}
+use Rattle.std.proofs.Common.{◌∙◌, sym, ap}
 use Rattle.campl_tree.specs.declared.service.Side.TheVariants.{Output}
 use Rattle.campl_tree.specs.View.{view_part}
 use Rattle.campl_tree.proofs.Views.{view_part-out}
@@ -14,6 +14,6 @@ use Rattle.campl_plug_heads.proofs.heads.outputs_stand.Goals as goal
 pub returns-clause-judged : goal.returns-clause-judged
 returns-clause-judged c =
     follows (λ _. fine) _ _ c.names_stand.result
-        (own-stand (links_named c.args.around.now.links.now) (view_held c.args.around.now.held.now) Output c.in-Ok.own (names_of (view_part c.args.part.now).0.inputs) (names_in c.args.before.now) (view_part c.args.part.now).0.outputs c.in-Ok.ensures
-        ∙ ap (names_stand (links_named c.args.around.now.links.now) (view_held c.args.around.now.held.now) Output _) (ap (λ v. v.0.outputs) (view_part-out c.args.part.now) ∙ sym c.as_slice.ensures))
-        c.names_stand.ensures.judged
+    (own-stand (links_named c.args.around.now.links.now) (view_held c.args.around.now.held.now) Output c.in-Ok.own (names_of (view_part c.args.part.now).0.inputs) (names_in c.args.before.now) (view_part c.args.part.now).0.outputs c.in-Ok.ensures
+    ∙ ap (names_stand (links_named c.args.around.now.links.now) (view_held c.args.around.now.held.now) Output _) (ap (λ v. v.0.outputs) (view_part-out c.args.part.now) ∙ sym c.as_slice.ensures))
+    c.names_stand.ensures.judged

@@ -1,4 +1,4 @@
-use Rattle.std.proofs.Common.{◌∙◌, sym, ap}
+use Rattle.std.proofs.Common.{◌∙◌}
 use Rattle.campl_held.specs.Slots.{view_held}
 use Rattle.campl_plug_heads.proofs.Shares.{ends-at, free-at, stand-at}
 use Rattle.campl_plug_heads.proofs.share.add_ends.Goals as goal

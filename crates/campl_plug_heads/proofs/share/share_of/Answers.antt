@@ -1,4 +1,4 @@
-use Rattle.std.proofs.Common.{◌≡◌, ◌∙◌, ◌++◌, true, sym, ap, subst, map}
+use Rattle.std.proofs.Common.{◌∙◌, ◌++◌, true, sym, ap, subst, map}
 use Rattle.campl_tree.specs.View.{view_link, view_part}
 use Rattle.campl_held.specs.Slots.{view_held, is_kept}
 use Rattle.campl_plug_heads.specs.Heads.{ends_in, LinksStand}

@@ -10,5 +10,5 @@ use Rattle.campl_plug_heads.proofs.uses.all_are_used.Goals as goal
 pub returns : goal.returns
 returns c =
     follows (λ _. fine) _ _ c.none_left.result
-        (all-used-by c.args.at (parts (map view_part c.args.parts.now)) c.in-Ok.used (view_held c.args.held.now) c.in-Ok.ensures ∙ ap (none_left c.args.at) (sym c.in-Ok-those.ensures))
-        c.none_left.ensures
+    (all-used-by c.args.at (parts (map view_part c.args.parts.now)) c.in-Ok.used (view_held c.args.held.now) c.in-Ok.ensures ∙ ap (none_left c.args.at) (sym c.in-Ok-those.ensures))
+    c.none_left.ensures
