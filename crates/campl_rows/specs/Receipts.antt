@@ -15,12 +15,14 @@ pub data Receipt : Type 0 where
   Constructor : Name → Receipt
   Nothing : Receipt
 
+-- as code has it
 abbrev pub view_receipt : Code → Receipt
 view_receipt (code.Value x) = Value x.now
 view_receipt (code.Channels x) = Channels x.now
 view_receipt (code.Constructor x) = Constructor x.now
 view_receipt code.Nothing = Nothing
 
+-- that which a command is
 abbrev pub action_receipt : Action → Receipt
 action_receipt (b.Put at a x) = Nothing
 action_receipt (b.Get at v x) = Value x.name

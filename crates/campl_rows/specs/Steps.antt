@@ -45,6 +45,7 @@ row_holding x u k held = and_then (row_type k x u) (λ y. Is (goes_on x (On u.si
 abbrev pub branch_begins : World → Holding → (before : List Name) → Ident × Body → Judged LinFault Fine
 branch_begins w held before row = and_then (held_at row.0 held) (begins w row.0 row.1 before)
 
+-- the number of rows, and then each
 abbrev pub race_stands : World → Place → Branches → Holding → Judged LinFault Fine
 race_stands w at rows held = and_then (branch_count at (length (branch_names rows))) (λ _. branches_begin w held [] rows)
 
@@ -68,6 +69,7 @@ left_holding y c left held = comes y c (those (λ n. is_free n left) held)
 abbrev pub right_holding : Name → Channel → (left : Body) → Holding → Holding
 right_holding z c left held = comes z c (those (λ n. not (is_free n left)) held)
 
+-- both shares, where the channel forks and the ends are new
 abbrev pub fork_holding : World → Place → (x y : Ident) → (left : Body) → (z : Ident) → Holding → Judged LinFault (Holding × Holding)
 fork_holding w at x y left z held =
     and_then (used w at x to_fork held) (λ u. and_then (two_new y z (given_up x.name held)) (λ _.
