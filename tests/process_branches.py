@@ -5,7 +5,7 @@ from itertools import product
 from process_forms import block, do, process, source, source_of
 from process_rows import CHANNELS, TYPES, table
 
-PAIR, TWIN = "TopBot (+) TopBot", "TopBot (*) TopBot"
+PAIR, TWIN, RACERS = "TopBot (+) TopBot", "TopBot (*) TopBot", "Put(Int | TopBot) (*) Put(Int | TopBot)"
 
 
 # ---- fork
@@ -52,30 +52,61 @@ USES = {
     "a fork into its own name": (PAIR, block("fork d as", "d -> " + do("close @", "halt d"), "y -> halt y")),
     "the header of a part": ("TopBot", block("plug l :: TopBot of", "d => l -> " + do("close d", "halt l"), "l, @ => -> " + do("close l", "halt @"))),
     "a race": ("Put(Int | TopBot)", block("race", "d -> " + do("get _ on d", "close d", "halt @"), "@ -> halt @")),
-    "an identity's right side": ("TopBot", block("plug l :: TopBot of", "d => l -> l |=| d", "l, @ => -> " + do("close l", "halt @"))),
     "a call": ("TopBot", "both( | d, @ => )"),
     "a call's second": ("TopBot", "both( | @, d => )"),
     "nothing": ("TopBot", "halt @"),
 }
 
+# The same with `d` as an output.
+USES_OF_OUTPUT = {
+    "an identity's left side": ("TopBot", "d |=| @"),
+    "an identity's right side": ("TopBot", "@ |=| d"),
+    "a call's output": ("TopBot", "over( | @ => d)"),
+    "a part's output": ("TopBot", block("plug l :: TopBot of", "=> d, l -> " + do("close d", "halt l"), "l, @ => -> " + do("close l", "halt @"))),
+}
+
 BOTH = process(do("close x", "halt y"), ["x :: TopBot", "y :: TopBot"], name="both")
+OVER = process("x |=| y", ["x :: TopBot"], ["y :: TopBot"], name="over")
 DRAIN = process(block("hcase d of", "Item -> " + do("get _ on d", "drain( | d => )"), "Done -> halt d"), ["d :: Stream(Int)"], name="drain")
 
 # The last commands of a body whose own channel has a type.
-ENDINGS = {"TopBot": ["halt @"], PAIR: [block("fork @ as", "x -> halt x", "y -> halt y")], TWIN: ["split @ into x, y", "close x", "halt y"]}
+ENDINGS = {
+    "TopBot": ["halt @"],
+    PAIR: [block("fork @ as", "x -> halt x", "y -> halt y")],
+    TWIN: ["split @ into x, y", "close x", "halt y"],
+    RACERS: ["split @ into x, y", "get _ on x", "get _ on y", "close x", "halt y"],
+    "Stream(Int)": ["drain( | @ => )"],
+}
 
-# Bodies with a binder of `d`, which hides the held one where it stands: the type of the body's own channel, and the body.
-HIDING = {
-    "a split": (TWIN, do("split @ into d, x", "close d", "halt x")),
-    "the second name of a split": (TWIN, do("split @ into x, d", "close x", "halt d")),
-    "a split behind a use": (TWIN, do("close d", "split @ into d, x", "close d", "halt x")),
-    "a fork": (PAIR, block("fork @ as", "d -> halt d", "x -> halt x")),
-    "the second name of a fork": (PAIR, block("fork @ as", "x -> halt x", "d -> halt d")),
-    "a fork, and the other body names it": (PAIR, block("fork @ as", "d -> halt d", "x -> " + do("close d", "halt x"))),
-    "a link": ("TopBot", block("plug d :: TopBot of", "@ => d -> " + do("close @", "halt d"), "d => -> halt d")),
-    "no link, in a header": ("TopBot", block("plug l :: TopBot of", "@, d => l -> " + do("close @", "close d", "halt l"), "l => -> halt l")),
-    "no link, in no header": ("TopBot", block("plug l :: TopBot of", "@ => l -> " + do("close @", "close d", "halt l"), "l => -> halt l")),
-    "a link of an inner plug": (
+# Bodies with a channel of another type, in which `d` stands or is hidden: the type and the body.
+STANDING = {
+    "in the rows of hcase": (
+        "Stream(Int)",
+        block("hcase @ of", "Done -> " + do("close d", "halt @"), "Item -> " + do("close d", "get _ on @", "drain( | @ => )")),
+    ),
+    "in the last row of hcase": ("Stream(Int)", block("hcase @ of", "Done -> halt @", "Item -> " + do("close d", "get _ on @", "drain( | @ => )"))),
+    "in the bodies of a race": (
+        RACERS,
+        do(
+            "split @ into x, y",
+            block(
+                "race",
+                "x -> " + do("get _ on x", "get _ on y", "close x", "close d", "halt y"),
+                "y -> " + do("get _ on y", "get _ on x", "close y", "close d", "halt x"),
+            ),
+        ),
+    ),
+    "at a row of a race alone": (RACERS, do("split @ into x, y", block("race", "d -> halt x", "x -> " + do("get _ on x", "halt x")))),
+    "hidden by a split": (TWIN, do("split @ into d, x", "close d", "halt x")),
+    "hidden by the second name of a split": (TWIN, do("split @ into x, d", "close x", "halt d")),
+    "hidden by a split, behind a use": (TWIN, do("close d", "split @ into d, x", "close d", "halt x")),
+    "hidden by a fork": (PAIR, block("fork @ as", "d -> halt d", "x -> halt x")),
+    "hidden by the second name of a fork": (PAIR, block("fork @ as", "x -> halt x", "d -> halt d")),
+    "hidden by a fork, and the other body names it": (PAIR, block("fork @ as", "d -> halt d", "x -> " + do("close d", "halt x"))),
+    "hidden by a link": ("TopBot", block("plug d :: TopBot of", "@ => d -> " + do("close @", "halt d"), "d => -> halt d")),
+    "in a header of a plug": ("TopBot", block("plug l :: TopBot of", "@, d => l -> " + do("close @", "close d", "halt l"), "l => -> halt l")),
+    "in no header of a plug": ("TopBot", block("plug l :: TopBot of", "@ => l -> " + do("close @", "close d", "halt l"), "l => -> halt l")),
+    "hidden by a link of an inner plug": (
         "TopBot",
         block(
             "plug l :: TopBot of",
@@ -86,22 +117,30 @@ HIDING = {
 }
 
 
-def forked(own, a, left, right):
-    called = "".join(one for name, one in (("drain(", DRAIN), ("both(", BOTH)) if name in left + right)
+def forked(own, d, left, right):
+    """A fork into channels of one type, beside `d`, which is written `d :: TopBot` or, as an output, `=> d :: TopBot`."""
+    called = "".join(one for name, one in (("drain(", DRAIN), ("both(", BOTH), ("over(", OVER)) if name in left + right)
     body = block("fork c as", "a -> " + left.replace("@", "a"), "b -> " + right.replace("@", "b"))
-    return source(called, process(body, ["c :: (%s) (+) (%s)" % (own, own), "d :: " + a]))
+    forking = "c :: (%s) (+) (%s)" % (own, own)
+    if d.startswith("=> "):
+        return source(called, process(body, [forking], [d[3:]]))
+    return source(called, process(body, [forking, d]))
 
 
 def division_cases():
-    for name, (a, body) in USES.items():
-        yield "fork, the first body with " + name, forked("TopBot", a, body, "halt @")
-        yield "fork, the second body with " + name, forked("TopBot", a, "halt @", body)
-        yield "fork, both bodies with " + name, forked("TopBot", a, body, body)
-        yield "fork, the first body with %s, and the second closes it" % name, forked("TopBot", a, body, do("close d", "halt @"))
-    for name, (own, body) in HIDING.items():
-        yield "fork, d hidden by %s, and the second closes it" % name, forked(own, "TopBot", body, do("close d", *ENDINGS[own]))
-        yield "fork, d hidden by %s, and none has it" % name, forked(own, "TopBot", body, do(*ENDINGS[own]))
-        yield "fork, d hidden in the second by %s" % name, forked(own, "TopBot", do("close d", *ENDINGS[own]), body)
+    uses = [(name, "d :: " + a, body) for name, (a, body) in USES.items()]
+    uses += [(name, "=> d :: " + a, body) for name, (a, body) in USES_OF_OUTPUT.items()]
+    for name, d, body in uses:
+        yield "fork, the first body with " + name, forked("TopBot", d, body, "halt @")
+        yield "fork, the second body with " + name, forked("TopBot", d, "halt @", body)
+        yield "fork, both bodies with " + name, forked("TopBot", d, body, body)
+        yield "fork, the first body with %s, and the second closes it" % name, forked("TopBot", d, body, do("close d", "halt @"))
+    for name, (own, body) in STANDING.items():
+        closing = do("close d", *ENDINGS[own])
+        yield "fork, d %s, and the second closes it" % name, forked(own, "d :: TopBot", body, closing)
+        yield "fork, d %s, and the second hasn't it" % name, forked(own, "d :: TopBot", body, do(*ENDINGS[own]))
+        yield "fork, the first closes d, and in the second it stands %s" % name, forked(own, "d :: TopBot", closing, body)
+        yield "fork, the first hasn't d, and in the second it stands %s" % name, forked(own, "d :: TopBot", do(*ENDINGS[own]), body)
 
 
 def deep_fork_cases():
@@ -109,7 +148,7 @@ def deep_fork_cases():
     for named in product((False, True), repeat=4):
         w, x, y, z = ("%s -> " % name + (do("close d", "halt " + name) if there else "halt " + name) for name, there in zip("wxyz", named))
         told = ", ".join(name for name, there in zip("wxyz", named) if there) or "none"
-        yield "fork in both bodies, d named at " + told, forked(PAIR, "TopBot", block("fork @ as", w, x), block("fork @ as", y, z))
+        yield "fork in both bodies, d named at " + told, forked(PAIR, "d :: TopBot", block("fork @ as", w, x), block("fork @ as", y, z))
 
 
 # ---- race

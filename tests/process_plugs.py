@@ -121,6 +121,8 @@ CHANGES = {
 
 def change_cases():
     yield "plug of four parts", form_source(BASE)
+    for links in ("a b c a t", "t a b c a", "a t b c a", "a a t b b c"):
+        yield "plug with the links " + ", ".join(links.split()), form_source({**BASE, "links": links.split()})
     for name, change in CHANGES.items():
         form = deepcopy(BASE)
         change(form)
@@ -272,6 +274,10 @@ def share_cases():
         form = form_of("a b", ["%s > t" % " ".join(names), "%s > a" % others, "> b"], "k h t")
         form["bodies"][0] = "halt"
         yield "left of a part that names " + ", ".join(names), form_source(form)
+    for names in permutations("hka"):
+        form = form_of("a b", ["%s > t" % " ".join(names), "b > a", "> b"], "k h t")
+        form["bodies"][0] = do("close h", "halt a") if names[0] == "h" else "halt"
+        yield "left of a part that names all, " + ", ".join(names), form_source(form)
     for closed in combinations("khtab", 3):
         form = form_of("a b", ["k h > t b a", "a >", "b >"], "k h t")
         form["bodies"][0] = body_of(list(closed), [])

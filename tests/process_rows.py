@@ -14,6 +14,7 @@ VALUES = {
     "an empty list": "[]",
     "a call without an argument": "add(1)",
     "a comparison of pairs": "if (1, 2) == (1, 2) then 1 else 2",
+    "a comparison of empty lists": "if [] == [] then 1 else 2",
     "a value without a row": "(case 1 of 0 -> 1)",
 }
 
@@ -283,6 +284,9 @@ def hcase_cases():
             letters("Other", "D"),
             process(block("hcase c of", *rows), ["c :: Three"]),
         )
+    for rows in ("A", "B", "C", "AB", "CB", "CA"):
+        text = source(letters("Three", "ABC"), process(block("hcase c of", *(one + " -> halt c" for one in rows)), ["c :: Three"]))
+        yield "hcase of three with %s alone" % rows, text
     left = [row + " -> " + body for row, body in OFFER_BODIES["right"].items()]
     yield "hcase with another channel left in each row", source_of(block("hcase c of", *left[::-1]), ["c :: Stream(Int)", "d :: TopBot"])
     yield "hcase with another channel for each row", source_of(
@@ -339,6 +343,9 @@ def case_cases():
             ["n :: Int"],
         )
     using = block("case (n, 'c') of", "(0, x) -> " + do("put x on c", "halt c"), "(x, _) -> " + do("put x on c", "halt c"))
+    hiding = block("case 'c' of", "n -> " + do("put n on c", "halt c"))
+    yield "case with a variable that hides another", source_of(hiding, [], ["c :: Put(Char | TopBot)"], ["n :: Int"])
+    yield "case with a variable that hides another, used as that", source_of(hiding, [], ["c :: Put(Int | TopBot)"], ["n :: Int"])
     yield "case with a variable of two types", source_of(using, [], ["c :: Put(Char | TopBot)"], ["n :: Int"])
 
 
@@ -378,21 +385,38 @@ def order_cases():
 # ---- What is left, in the order of what is held
 
 
+LEFT_BEHIND = {
+    "get": do("get _ on b", "halt"),
+    "split of the first": do("split a into x, y", "halt"),
+    "split and the rest closed": do("split a into x, y", "get _ on b", "close b", "close c", "halt"),
+    "split, one of two closed": do("split a into x, y", "get _ on b", "close b", "close c", "halt x"),
+    "split, the names turned": do("split a into y, x", "get _ on b", "close b", "halt c"),
+    "split into its own name": do("split a into x, a", "get _ on b", "close b", "halt c"),
+    "an identity": "a |=| c",
+    "a call": "q( | c => )",
+    "a call with the first": "q( | a => )",
+    "a case": block("case 1 of", "_ -> halt c"),
+}
+
+# The first channel keeps its place, whatever becomes of its type.
+CHANGING = {
+    "put": ("Get(Int | TopBot)", ["put 1 on a"]),
+    "get": ("Put(Int | TopBot)", ["get _ on a"]),
+    "hput": ("Door", ["hput Open on a"]),
+    "hput and put": ("Door", ["hput Open on a", "put 1 on a"]),
+}
+
+
 def left_cases():
-    for name, body in {
-        "after get": do("get _ on b", "halt"),
-        "after split of the first": do("split a into x, y", "halt"),
-        "after split and the rest closed": do("split a into x, y", "get _ on b", "close b", "close c", "halt"),
-        "after split, one of two closed": do("split a into x, y", "get _ on b", "close b", "close c", "halt x"),
-        "after split, the names turned": do("split a into y, x", "get _ on b", "close b", "halt c"),
-        "after split into its own name": do("split a into x, a", "get _ on b", "close b", "halt c"),
-        "at an identity": "a |=| c",
-        "at a call": "q( | c => )",
-        "at a call with the first": "q( | a => )",
-        "in a case": block("case 1 of", "_ -> halt c"),
-    }.items():
+    for name, body in LEFT_BEHIND.items():
         called = process("halt c", ["c :: TopBot"], [], [], "q") if "q(" in body else ""
-        yield "left " + name, source(process(body, ["a :: TopBot (*) TopBot", "b :: Put(Int | TopBot)"], ["c :: TopBot"]), called)
+        text = source(process(body, ["a :: TopBot (*) TopBot", "b :: Put(Int | TopBot)"], ["c :: TopBot"]), called)
+        yield "left behind " + name, text
+    for name, (a, actions) in CHANGING.items():
+        yield "left behind %s on the first" % name, source_of(do(*actions, "halt"), ["a :: " + a, "b :: TopBot"], ["c :: TopBot"])
+        yield "left behind %s on the last" % name, source_of(do(*actions, "halt b"), ["b :: TopBot", "c :: TopBot", "a :: " + a])
+    offering = block("hcase a of", "Done -> halt b", "Item -> halt")
+    yield "left in a row of hcase", source_of(offering, ["a :: Stream(Int)", "b :: TopBot"], ["c :: TopBot"])
 
 
 def row_groups():

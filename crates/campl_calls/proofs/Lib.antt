@@ -1,0 +1,7 @@
+mod Turns
+mod Values
+mod Called
+mod Handed
+mod Noted
+mod Entered
+pub mod Headed

@@ -1,0 +1,4 @@
+pub mod Halting
+pub mod Identities
+pub mod Handing
+pub mod Headings
