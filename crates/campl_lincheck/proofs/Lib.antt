@@ -1,0 +1,3 @@
+pub mod Turns
+pub mod Weights
+pub mod Falls
