@@ -9,3 +9,4 @@ pub mod Limits
 pub mod OneAnswer
 pub mod Judging
 pub mod OneFault
+pub mod OneVerdict

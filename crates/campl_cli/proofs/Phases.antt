@@ -19,7 +19,7 @@ use Rattle.campl_types.specs.declared.fault.NameFault.TheVariants as naming
 use Rattle.campl_names.specs.Judges.{Judges}
 use Rattle.campl_names.specs.Judges as judge
 use Rattle.campl_types.specs.WellDeclared.{name_faults}
-use Rattle.campl_cli.specs.Source.{HasTokens, end_of, tree_fault_of, IsTreeRefusal, refusal_of_naming, IsRefusedForNames}
+use Rattle.campl_cli.specs.Source.{HasTokens, end_of, tree_fault_of, IsTreeRefusal, refusal_of_naming, IsRefusedFor, IsToldOfNames}
 
 -- a fault that tokens have
 abbrev IsOfTokens : LexFault → Type 0
@@ -187,7 +187,7 @@ pub refuses : {A : Type 0} (faults : List NameFault) (fault : NameFault) → Jud
 refuses faults fault h = refused faults (Err fault) h
 
 -- what is told of names is their first fault
-pub naming_refuses : (program : d.Program) (fault : NameFault) → Judged (name_faults program) fault → IsRefusedForNames program (refusal_of_naming fault)
+pub naming_refuses : (program : d.Program) (fault : NameFault) → Judged (name_faults program) fault → IsRefusedFor (IsToldOfNames program) (refusal_of_naming fault)
 naming_refuses program (naming.Twice at x) h = (naming.Twice at x, h, refl)
 naming_refuses program (naming.Unknown at x) h = (naming.Unknown at x, h, refl)
 naming_refuses program (naming.WrongKind at x) h = (naming.WrongKind at x, h, refl)

@@ -1,5 +1,5 @@
 -- The four ways in which the command ends.
-use Rattle.std.proofs.Common.{◌≡◌, ◌≢◌, Bool, true, false, Option, Some, None, ◌<◌, ℕ, ◌+◌, List, [], ◌∷◌, arith, inl, inr, ap, ap₂, sym, subst, ◌∙◌, map}
+use Rattle.std.proofs.Common.{◌≡◌, ◌≢◌, ◌<◌, ℕ, ◌+◌, List, [], ◌∷◌, arith, inl, inr, ap, ap₂, sym, subst, ◌∙◌, map}
 use Rattle.std.specs.Prelude.{All}
 use Rattle.std.specs.List.{fold}
 use Rattle.std.proofs.lemmas.List.{length-map}
@@ -15,10 +15,10 @@ use Rattle.campl_cli.specs.declared.refusal.Refusal.{Refusal}
 use Rattle.campl_cli.specs.declared.refusal.Refusal.TheVariants.{BadCommandLine, ReadFault, TooLong, NotUtf8, Source, NotBuilt, OutOfMemory}
 use Rattle.campl_cli.specs.declared.report.Report.{Report}
 use Rattle.campl_cli.specs.Form.{Prints}
-use Rattle.campl_cli.specs.Refusals.{Files, IsAccepted, IsDue, IsRefusedBy, IsRefusedOrder, TakesMemory, runs, source_of}
-use Rattle.campl_orders.specs.Orders.{IsOrder, PlainOrder}
-use Rattle.campl_cli.specs.Performance.{IsPerformance, IsPrinted}
-use Rattle.campl_cli.specs.Answer.{Stream, Had, HadNothing, HasRun, IsAnswer, IsTold, IsRefused, FailedIn, printed, step_budget}
+use Rattle.campl_cli.specs.Refusals.{Files, IsDue, IsRefusedOrder, IsRefusedSource, IsSource, TakesMemory}
+use Rattle.campl_orders.specs.Orders.{IsOrder, PlainOrder, run, check, code, generate, migrate}
+use Rattle.campl_cli.specs.Performance.{IsAcceptance, IsDone, IsPerformance, IsPrinted}
+use Rattle.campl_cli.specs.Answer.{Stream, HadNothing, HasNoRun, HasRun, Does, RunsFile, IsAnswer, IsTold, IsRefused, printed, step_budget}
 use Rattle.campl_cli.proofs.Printing.{Comes, printing-runs}
 
 -- what holds of each f x holds of each x behind f
@@ -33,22 +33,30 @@ weights_from n (entry ∷ entries) = omega (arith, weights_from (n + entry.weigh
 weight_is : (entries : List Entry) → weight_of entries ≡ steps_of (plain_entries entries)
 weight_is entries = omega (arith, weights_from 0 entries)
 
--- want of memory comes freely, but where no source is read
-memory_comes : (files : Files) (b : Bool) (o : Option (List ℕ)) (refusal : Refusal) → refusal ≢ NotBuilt → IsRefusedBy b o files refusal → IsRefusedBy b o files OutOfMemory
-memory_comes files true (Some file) refusal n is = tt
-memory_comes files false (Some file) refusal n is = tt
-memory_comes files true None refusal n is = absurd (n is)
-memory_comes files false None refusal n is = absurd (n is)
+-- words that are an order aren't refused as a bad command line
+not_bad : (unbuilt : List ℕ → Type 0) (files : Files) (file : List ℕ) → IsRefusedSource unbuilt files file BadCommandLine → ⊥
+not_bad unbuilt files file (inl unread) = unread
+not_bad unbuilt files file (inr (text, has, inl fault)) = fault
+not_bad unbuilt files file (inr (text, has, inr (is, rest))) = let no : ⊥ = cc in no
 
-no_words_due : (files : Files) (b : Bool) (o : Option (List ℕ)) → IsRefusedBy b o files BadCommandLine → ⊥
-no_words_due files true (Some file) is = is
-no_words_due files false (Some file) is = is
-no_words_due files true None is = let no : ⊥ = cc in no
-no_words_due files false None is = let no : ⊥ = cc in no
+no_words_due : (order : PlainOrder) (files : Files) → IsRefusedOrder order files BadCommandLine → ⊥
+no_words_due (run file script steps workers) files is = not_bad _ files file is
+no_words_due (check file) files is = not_bad _ files file is
+no_words_due (code file) files is = not_bad _ files file is
+no_words_due (generate stages workers) files is = let no : ⊥ = cc in no
+no_words_due (migrate file) files is = let no : ⊥ = cc in no
+
+-- want of memory comes freely, but where no source is read
+memory_comes : (order : PlainOrder) (files : Files) (refusal : Refusal) → refusal ≢ NotBuilt → IsRefusedOrder order files refusal → IsRefusedOrder order files OutOfMemory
+memory_comes (run file script steps workers) files refusal n is = inl tt
+memory_comes (check file) files refusal n is = inl tt
+memory_comes (code file) files refusal n is = inl tt
+memory_comes (generate stages workers) files refusal n is = absurd (n is)
+memory_comes (migrate file) files refusal n is = absurd (n is)
 
 -- an order's refusal is one of the command
 pub order_due : (words : List (List ℕ)) (files : Files) (order : PlainOrder) (refusal : Refusal) → IsOrder words order → IsRefusedOrder order files refusal → IsDue words files refusal
-order_due words files order BadCommandLine is refused = absurd (no_words_due files (runs order) (source_of order) refused)
+order_due words files order BadCommandLine is refused = absurd (no_words_due order files refused)
 order_due words files order ReadFault is refused = (order, is, refused)
 order_due words files order TooLong is refused = (order, is, refused)
 order_due words files order (NotUtf8 at) is refused = (order, is, refused)
@@ -68,31 +76,56 @@ module _ (words : List (List ℕ)) (files : Files) (out err : Stream) (report : 
       end = comes.end report.steps step_budget;
       steps = told.steps ∙ ap weight_of (sym told.entries);
       within = omega (arith, told.steps, ap weight_of told.entries, weight_is report.journal.entries, comes.steps, done.fine.few);
-      ended = told.ended;
+      ended = told.ended ∙ done.ended;
     }
 
     output_is : performance.output.items ≡ printed p report comes.last
     output_is =
         done.output ∙ ap₂ (λ (transcript : Transcript) (steps : ℕ). output_of ((p.console, transcript) ∷ []) e.Finished [] steps) (sym comes.transcript) (sym told.steps)
 
-  pub answers_run : (p : Prints) (performance : Performance) → IsAccepted words files p → IsPerformance p performance → IsPrinted performance out err report → IsAnswer words files out err report
-  answers_run p performance accepted done told = elim told.written [
-    | inl written ↦ inl (record {
-      status = written.0;
+    runs_file : (file : List ℕ) → IsSource files file p → RunsFile files file report (performance.output.items)
+    runs_file file accepted = record {
       source = p;
       accepted = accepted;
-      last = (comes p performance done told).last;
-      run = has_run p performance done told;
-      output = subst (λ bytes. Had out bytes) (output_is p performance done told) written.1;
+      last = comes.last;
+      run = has_run;
+      prints = output_is;
+    }
+
+  -- nothing ran where a source was checked
+  no_run : (performance : Performance) → IsAcceptance performance → IsPrinted performance out err report → HasNoRun report
+  no_run performance done told =
+      let none : report.journal.entries ≡ [] = told.entries ∙ done.entries in
+      let steps : report.steps ≡ weight_of performance.journal.entries = told.steps in
+      record { entries = none; steps = rw done.entries at steps; ended = told.ended ∙ done.ended }
+
+  does : (order : PlainOrder) (performance : Performance) → IsDone order files performance → IsPrinted performance out err report → Does order files report (performance.output.items)
+  does (run file script steps workers) performance (so_far, (p, accepted, done)) told = (so_far, runs_file p performance done told file accepted)
+  does (check file) performance (accepted, done) told = record { accepted = accepted; no_run = no_run performance done told; tells = done.output }
+  does (code file) performance done told = absurd done
+  does (generate stages workers) performance done told = absurd done
+  does (migrate file) performance done told = absurd done
+
+  -- what is done is printed or couldn't be
+  pub answers_done : (order : PlainOrder) (performance : Performance) → IsOrder words order → IsDone order files performance → IsPrinted performance out err report
+      → IsAnswer words files out err report
+  answers_done order performance is done told = elim told.written [
+    | inl written ↦ inl (record {
+      status = written.0;
+      order = order;
+      is = is;
+      output = performance.output.items;
+      does = does order performance done told;
+      written = written.1;
       silent = written.2;
     })
     | inr failed ↦ inr (inl (record {
       status = failed.0;
-      source = p;
-      accepted = accepted;
-      last = (comes p performance done told).last;
-      run = has_run p performance done told;
-      output = subst (λ bytes. FailedIn out bytes) (output_is p performance done told) failed.1;
+      order = order;
+      is = is;
+      output = performance.output.items;
+      does = does order performance done told;
+      failed = failed.1;
       told = failed.2;
     }))
   ]
@@ -106,8 +139,8 @@ module _ (words : List (List ℕ)) (files : Files) (out err : Stream) (report : 
 
   -- where a line takes memory, the words are an order
   starved : (refusal : Refusal) → IsDue words files refusal → TakesMemory refusal → IsDue words files OutOfMemory
-  starved (NotUtf8 at) (order, is, refused) takes = (order, is, memory_comes files (runs order) (source_of order) (NotUtf8 at) (λ e. let no : ⊥ = cc in no) refused)
-  starved (Source fault) (order, is, refused) takes = (order, is, memory_comes files (runs order) (source_of order) (Source fault) (λ e. let no : ⊥ = cc in no) refused)
+  starved (NotUtf8 at) (order, is, refused) takes = (order, is, memory_comes order files (NotUtf8 at) (λ e. let no : ⊥ = cc in no) refused)
+  starved (Source fault) (order, is, refused) takes = (order, is, memory_comes order files (Source fault) (λ e. let no : ⊥ = cc in no) refused)
   starved BadCommandLine due takes = absurd takes
   starved TooLong due takes = absurd takes
   starved NotBuilt due takes = absurd takes

@@ -1,5 +1,5 @@
 -- What the command answers, and what it has written by then.
-use Rattle.std.specs.Prelude.{◌≡◌, ◌≢◌, ◌≤◌, ℕ, ◌⊎◌, List, [], ◌∷◌, ◌++◌, Option, Some, None}
+use Rattle.std.specs.Prelude.{◌≡◌, ◌≢◌, ◌≤◌, ℕ, ◌⊎◌, true, List, [], ◌∷◌, ◌++◌, Option, Some, None, codes}
 use Rattle.std.specs.Io.KnownBytes.{Appends}
 use Rattle.campl_text.specs.Counts.{Rose}
 use Rattle.campl_first_path.specs.Reductions.{Configuration}
@@ -14,7 +14,8 @@ use Rattle.campl_cli.specs.declared.report.Report.{Report}
 use Rattle.campl_cli.specs.declared.report.Ended.TheVariants.{Finished}
 use Rattle.campl_cli.specs.Form.{Prints}
 use Rattle.campl_cli.specs.Printing.{source_of}
-use Rattle.campl_cli.specs.Refusals.{Files, IsAccepted, IsDue, TakesMemory, status_of, line_of, write_fault_line}
+use Rattle.campl_cli.specs.Refusals.{Files, IsSource, IsAcceptedFile, IsDue, TakesMemory, runs, status_of, line_of, write_fault_line}
+use Rattle.campl_orders.specs.Orders.{IsOrder, PlainOrder, run, check, code, generate, migrate}
 
 -- what a stream has had before and after the call, where it tells it, and its counts of faults
 pub record Stream : Type 0 where
@@ -65,24 +66,50 @@ pub record HasNoRun (report : Report) : Type 0 where
 abbrev pub printed : Prints → Report → Configuration → List ℕ
 printed p report last = output_of ((p.console, transcript_of last 0) ∷ []) e.Finished [] report.steps
 
--- it ran, and its output is written
-pub record Ran (words : List (List ℕ)) (files : Files) (out err : Stream) (report : Report) : Type 0 where
-  pub status : report.status ≡ 0
+-- what the check of an accepted source prints
+abbrev pub accepted_line : List ℕ
+accepted_line = codes "accepted" ++ (10 ∷ [])
+
+-- a file's source is run, and prints this
+pub record RunsFile (files : Files) (file : List ℕ) (report : Report) (output : List ℕ) : Type 0 where
   pub source : Prints
-  pub accepted : IsAccepted words files source
+  pub accepted : IsSource files file source
   pub last : Configuration
   pub run : HasRun source report last
-  pub output : Had out (printed source report last)
+  pub prints : output ≡ printed source report last
+
+-- a file's source is accepted, which this output tells
+pub record ChecksFile (files : Files) (file : List ℕ) (report : Report) (output : List ℕ) : Type 0 where
+  pub accepted : IsAcceptedFile files file
+  pub no_run : HasNoRun report
+  pub tells : output ≡ accepted_line
+
+-- what each order does that isn't refused
+abbrev pub Does : PlainOrder → Files → Report → (output : List ℕ) → Type 0
+Does (run file script steps workers) files report output = (runs script steps ≡ true) × RunsFile files file report output
+Does (check file) files report output = ChecksFile files file report output
+Does (code file) files report output = ⊥
+Does (generate stages workers) files report output = ⊥
+Does (migrate file) files report output = ⊥
+
+-- it was done, and its output is written
+pub record Did (words : List (List ℕ)) (files : Files) (out err : Stream) (report : Report) : Type 0 where
+  pub status : report.status ≡ 0
+  pub order : PlainOrder
+  pub is : IsOrder words order
+  pub output : List ℕ
+  pub does : Does order files report output
+  pub written : Had out output
   pub silent : HadNothing err
 
--- it ran, and its output couldn't be written
+-- it was done, and its output couldn't be written
 pub record CouldNotPrint (words : List (List ℕ)) (files : Files) (out err : Stream) (report : Report) : Type 0 where
   pub status : report.status ≡ 6
-  pub source : Prints
-  pub accepted : IsAccepted words files source
-  pub last : Configuration
-  pub run : HasRun source report last
-  pub output : FailedIn out (printed source report last)
+  pub order : PlainOrder
+  pub is : IsOrder words order
+  pub output : List ℕ
+  pub does : Does order files report output
+  pub failed : FailedIn out output
   pub told : HadOrFailed err write_fault_line
 
 -- it was refused, and the refusal's line is written; want of memory is answered also where its line couldn't be written
@@ -107,7 +134,7 @@ pub record CouldNotTell (words : List (List ℕ)) (files : Files) (out err : Str
 -- the four ways in which the command ends
 abbrev pub IsAnswer : List (List ℕ) → Files → (out err : Stream) → Report → Type 0
 IsAnswer words files out err report =
-    Ran words files out err report ⊎ (CouldNotPrint words files out err report ⊎ (WasRefused words files out err report ⊎ CouldNotTell words files out err report))
+    Did words files out err report ⊎ (CouldNotPrint words files out err report ⊎ (WasRefused words files out err report ⊎ CouldNotTell words files out err report))
 
 -- the refusal's line is written and its status answered, or 6 where the line couldn't be written
 pub record IsTold (refusal : Refusal) (err : Stream) (report : Report) : Type 0 where

@@ -1,6 +1,8 @@
 -- The faults of a source, and how they are printed.
 use Rattle.std.specs.Prelude.{ℕ, List, [], ◌++◌, codes, encode_utf8_all}
 use Rattle.std.specs.Fmt.{decimal}
+use Rattle.campl_tree.specs.declared.service.Side.{Side}
+use Rattle.campl_tree.specs.declared.service.Side.TheVariants.{Input, Output}
 use Rattle.campl_cli.specs.declared.fault.FaultKind.{FaultKind}
 use Rattle.campl_cli.specs.declared.fault.FaultKind.TheVariants.{Text, Name, Function, Process}
 use Rattle.campl_cli.specs.declared.kind.TextKind.{TextKind}
@@ -12,7 +14,7 @@ use Rattle.campl_cli.specs.declared.kind.FunctionKind.TheVariants.{TypeDiffers, 
 use Rattle.campl_cli.specs.declared.kind.ProcessKind.{ProcessKind}
 use Rattle.campl_cli.specs.declared.kind.ProcessKind.TheVariants.{NotHeld, LeftOver, WrongAction, PlugUse, PlugCycle, PlugApart, CaseMissing, CaseTwice, RaceForm, IdentityType, CallChannels, PartCount}
 use Rattle.campl_cli.specs.declared.fault.Detail.{Detail}
-use Rattle.campl_cli.specs.declared.fault.Detail.TheVariants.{Nothing, Named, Counted, Differing, Missing}
+use Rattle.campl_cli.specs.declared.fault.Detail.TheVariants.{Nothing, Named, Counted, Differing, Missing, Channel, HeldSo, Link, Part, Constructor}
 use Rattle.campl_cli.specs.declared.fault.SourceFault.{SourceFault}
 
 -- ---- the number and the name of a fault
@@ -70,6 +72,10 @@ code_of (Process kind) = code_of_process kind
 
 -- ---- its line
 
+abbrev pub word_of_side : Side → List ℕ
+word_of_side Input = codes "input"
+word_of_side Output = codes "output"
+
 -- what is told beside the place
 abbrev pub message_of_detail : Detail → List ℕ
 message_of_detail Nothing = []
@@ -77,6 +83,12 @@ message_of_detail (Named x) = codes ": name " ++ encode_utf8_all x
 message_of_detail (Counted found wanted) = codes ": found " ++ (decimal found ++ (codes ", wanted " ++ decimal wanted))
 message_of_detail (Differing found wanted) = codes ": found " ++ (encode_utf8_all found ++ (codes ", wanted " ++ encode_utf8_all wanted))
 message_of_detail (Missing patterns) = codes ": missing " ++ encode_utf8_all patterns
+message_of_detail (Channel x) = codes ": channel " ++ encode_utf8_all x
+message_of_detail (HeldSo x t side) =
+    codes ": channel " ++ (encode_utf8_all x ++ (codes " has " ++ (encode_utf8_all t ++ (codes " on the " ++ (word_of_side side ++ codes " side")))))
+message_of_detail (Link x) = codes ": link " ++ encode_utf8_all x
+message_of_detail (Part p) = codes ": part " ++ decimal p
+message_of_detail (Constructor k) = codes ": constructor " ++ encode_utf8_all k
 
 -- a fault as its line tells it: `E02 OpenString at 4:13`, `E21 Unknown at 2:9: name x`
 abbrev pub message_of_fault : SourceFault → List ℕ

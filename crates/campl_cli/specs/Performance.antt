@@ -1,5 +1,5 @@
--- What a run did and prints, before any of it is written.
-use Rattle.std.specs.Prelude.{◌≡◌, ◌⊎◌, [], ◌∷◌, ◌++◌, Some, map}
+-- What an order came to and prints, before any of it is written.
+use Rattle.std.specs.Prelude.{◌≡◌, ◌⊎◌, true, [], ◌∷◌, ◌++◌, Some, None, map}
 use Rattle.campl_first_path.specs.States.{Took, WasClosed}
 use Rattle.campl_first_path.specs.Ends as e
 use Rattle.campl_first_path.specs.Output.{output_of}
@@ -9,8 +9,9 @@ use Rattle.campl_cli.specs.declared.report.Report.{Report}
 use Rattle.campl_cli.specs.declared.report.Ended.TheVariants.{Finished}
 use Rattle.campl_cli.specs.Form.{Prints, IsFine}
 use Rattle.campl_cli.specs.Printing.{journal_of}
-use Rattle.campl_cli.specs.Refusals.{write_fault_line}
-use Rattle.campl_cli.specs.Answer.{Stream, Had, HadNothing, HadOrFailed, FailedIn}
+use Rattle.campl_cli.specs.Refusals.{Files, IsSource, IsAcceptedFile, runs, write_fault_line}
+use Rattle.campl_orders.specs.Orders.{PlainOrder, run, check, code, generate, migrate}
+use Rattle.campl_cli.specs.Answer.{Stream, Had, HadNothing, HadOrFailed, FailedIn, accepted_line}
 
 -- the journal of the run of these prints, and their output
 pub record IsPerformance (p : Prints) (performance : Performance) : Type 0 where
@@ -18,11 +19,26 @@ pub record IsPerformance (p : Prints) (performance : Performance) : Type 0 where
   pub journal : plain_entries performance.journal.entries ≡ journal_of p.texts
   pub output : performance.output.items
       ≡ output_of ((p.console, map Took p.texts ++ (WasClosed ∷ [])) ∷ []) e.Finished [] (weight_of performance.journal.entries)
+  pub ended : performance.ended ≡ Some Finished
 
--- the output is written, or couldn't be, and the run is reported
+-- nothing ran, and it is told that a source is accepted
+pub record IsAcceptance (performance : Performance) : Type 0 where
+  pub entries : performance.journal.entries ≡ []
+  pub ended : performance.ended ≡ None
+  pub output : performance.output.items ≡ accepted_line
+
+-- what is done by an order that isn't refused
+abbrev pub IsDone : PlainOrder → Files → Performance → Type 0
+IsDone (run file script steps workers) files performance = (runs script steps ≡ true) × ((p : Prints) × IsSource files file p × IsPerformance p performance)
+IsDone (check file) files performance = IsAcceptedFile files file × IsAcceptance performance
+IsDone (code file) files performance = ⊥
+IsDone (generate stages workers) files performance = ⊥
+IsDone (migrate file) files performance = ⊥
+
+-- the output is written, or couldn't be, and what was done is reported
 pub record IsPrinted (performance : Performance) (out err : Stream) (report : Report) : Type 0 where
   pub entries : report.journal.entries ≡ performance.journal.entries
   pub steps : report.steps ≡ weight_of performance.journal.entries
-  pub ended : report.ended ≡ Some Finished
+  pub ended : report.ended ≡ performance.ended
   pub written : ((report.status ≡ 0) × Had out (performance.output.items) × HadNothing err)
       ⊎ ((report.status ≡ 6) × FailedIn out (performance.output.items) × HadOrFailed err write_fault_line)

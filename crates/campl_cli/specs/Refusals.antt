@@ -1,5 +1,5 @@
 -- Why the command ended before its run: each refusal with its status, its line, and when it is due.
-use Rattle.std.specs.Prelude.{◌≡◌, ℕ, ◌<◌, ◌==◌, Bool, true, false, List, [], ◌∷◌, ◌++◌, Option, Some, None, IfSome, codes, length, Err, Ok, ⊤}
+use Rattle.std.specs.Prelude.{◌≡◌, ◌⊎◌, ℕ, ◌<◌, ◌==◌, Bool, true, false, List, [], ◌∷◌, ◌++◌, Option, Some, None, IfSome, codes, length, Err, Ok, ⊤}
 use Rattle.std.specs.Fmt.{decimal}
 use Rattle.campl_text.specs.Counts.{Rose}
 use Rattle.campl_text.specs.Reading.{IsReading, IsTextWithin}
@@ -9,7 +9,7 @@ use Rattle.campl_cli.specs.declared.refusal.Refusal.{Refusal}
 use Rattle.campl_cli.specs.declared.refusal.Refusal.TheVariants.{BadCommandLine, ReadFault, TooLong, NotUtf8, Source, NotBuilt, OutOfMemory}
 use Rattle.campl_cli.specs.Faults.{message_of_fault}
 use Rattle.campl_cli.specs.Form.{Prints, IsFormOf}
-use Rattle.campl_cli.specs.Source.{HasJudged, IsSourceFault}
+use Rattle.campl_cli.specs.Source.{IsAcceptedAs, IsAcceptedText, IsRefusedFor, IsSourceFault}
 use Rattle.campl_orders.specs.Orders.{IsOrder, PlainOrder, run, check, code, generate, migrate}
 
 -- the most bytes that a source has
@@ -70,89 +70,68 @@ IsText contents text = IsReading contents source_limit (Ok text)
 abbrev pub HasText : Files → (file text : List ℕ) → Type 0
 HasText files file text = IsTextWithin source_limit text × IfSome (files.held file) (λ contents. IsText contents text)
 
--- the text has a tree of the form, which is judged to have no fault, and prints this
+-- ---- texts
+
+-- the text is accepted and of the form that runs so far, and prints this
 abbrev pub PrintsText : List ℕ → Prints → Type 0
-PrintsText text p = (program : Program) × HasJudged text program × IsFormOf p program
+PrintsText text p = (program : Program) × IsAcceptedAs text program × IsFormOf p program
 
--- when a text is refused so: it has a fault, or is of another form; want of memory alone comes freely
-abbrev pub IsRefusedText : List ℕ → Refusal → Type 0
-IsRefusedText text (Source fault) = IsSourceFault text fault
-IsRefusedText text NotBuilt = (program : Program) × HasJudged text program × ((p : Prints) → IsFormOf p program → ⊥)
-IsRefusedText text OutOfMemory = ⊤
-IsRefusedText text BadCommandLine = ⊥
-IsRefusedText text TooLong = ⊥
-IsRefusedText text (NotUtf8 at) = ⊥
-IsRefusedText text ReadFault = ⊥
+-- the text is accepted, and of another form
+abbrev pub IsOfAnotherForm : List ℕ → Type 0
+IsOfAnotherForm text = (program : Program) × IsAcceptedAs text program × ((p : Prints) → IsFormOf p program → ⊥)
 
--- the file's source prints this
+-- no text
+abbrev pub IsNone : List ℕ → Type 0
+IsNone text = ⊥
+
+-- when a text is refused so, where what is ordered isn't built for some accepted texts: for its first fault, or since it
+-- is one of these; want of memory alone comes freely
+abbrev pub IsRefusedText : (unbuilt : List ℕ → Type 0) → List ℕ → Refusal → Type 0
+IsRefusedText unbuilt text refusal = IsRefusedFor (IsSourceFault text) refusal ⊎ ((refusal ≡ NotBuilt) × unbuilt text)
+
+-- ---- sources
+
+-- the file's source is accepted and of the form that runs so far, and prints this
 abbrev pub IsSource : Files → (file : List ℕ) → Prints → Type 0
 IsSource files file p = (text : List ℕ) × HasText files file text × PrintsText text p
 
--- when a file's source is refused so; want of memory alone comes freely
-abbrev pub IsRefusedSource : Files → (file : List ℕ) → Refusal → Type 0
-IsRefusedSource files file BadCommandLine = ⊥
-IsRefusedSource files file ReadFault = Rose (files.before file) (files.after file)
-IsRefusedSource files file TooLong = IfSome (files.held file) (λ contents. source_limit < length contents)
-IsRefusedSource files file (NotUtf8 at) = IfSome (files.held file) (λ contents. IsReading contents source_limit (Err (t.NotUtf8 at)))
-IsRefusedSource files file (Source fault) = (text : List ℕ) × HasText files file text × IsRefusedText text (Source fault)
-IsRefusedSource files file NotBuilt = (text : List ℕ) × HasText files file text × IsRefusedText text NotBuilt
-IsRefusedSource files file OutOfMemory = ⊤
+-- the file's source is accepted
+abbrev pub IsAcceptedFile : Files → (file : List ℕ) → Type 0
+IsAcceptedFile files file = (text : List ℕ) × HasText files file text × IsAcceptedText text
+
+-- when a file's text can't be had so; want of memory alone comes freely
+abbrev pub IsUnread : Files → (file : List ℕ) → Refusal → Type 0
+IsUnread files file ReadFault = Rose (files.before file) (files.after file)
+IsUnread files file TooLong = IfSome (files.held file) (λ contents. source_limit < length contents)
+IsUnread files file (NotUtf8 at) = IfSome (files.held file) (λ contents. IsReading contents source_limit (Err (t.NotUtf8 at)))
+IsUnread files file OutOfMemory = ⊤
+IsUnread files file BadCommandLine = ⊥
+IsUnread files file (Source fault) = ⊥
+IsUnread files file NotBuilt = ⊥
+
+-- when a file's source is refused so, by any order about it: its text can't be had, or is refused
+abbrev pub IsRefusedSource : (unbuilt : List ℕ → Type 0) → Files → (file : List ℕ) → Refusal → Type 0
+IsRefusedSource unbuilt files file refusal = IsUnread files file refusal ⊎ ((text : List ℕ) × HasText files file text × IsRefusedText unbuilt text refusal)
 
 -- ---- orders
 
--- the file whose source an order is about; a script that is migrated is none
-abbrev pub source_of : PlainOrder → Option (List ℕ)
-source_of (run file script steps workers) = Some file
-source_of (check file) = Some file
-source_of (code file) = Some file
-source_of (generate stages workers) = None
-source_of (migrate file) = None
-
 -- what runs so far: no script, and the usual budget
-abbrev pub runs : PlainOrder → Bool
-runs (run file None steps workers) = steps == 100000
-runs (run file (Some script) steps workers) = false
-runs (check file) = false
-runs (code file) = false
-runs (generate stages workers) = false
-runs (migrate file) = false
+abbrev pub runs : (script : Option (List ℕ)) → (steps : ℕ) → Bool
+runs None steps = steps == 100000
+runs (Some script) steps = false
 
--- the order runs so far, and the file's source prints this
-abbrev pub RunsTo : PlainOrder → Files → Prints → Type 0
-RunsTo order files p = (runs order ≡ true) × ((file : List ℕ) × (source_of order ≡ Some file) × IsSource files file p)
+-- the accepted texts that aren't run yet: those of another form, and with a script or another budget all of them
+abbrev pub IsNotRun : Bool → List ℕ → Type 0
+IsNotRun true = IsOfAnotherForm
+IsNotRun false = IsAcceptedText
 
--- the words are such an order
-abbrev pub IsAccepted : List (List ℕ) → Files → Prints → Type 0
-IsAccepted words files p = (order : PlainOrder) × IsOrder words order × RunsTo order files p
-
--- when a text of which more than its check is ordered is refused so: it has a fault, or none and this isn't built
-abbrev pub IsUnbuiltText : List ℕ → Refusal → Type 0
-IsUnbuiltText text (Source fault) = IsSourceFault text fault
-IsUnbuiltText text NotBuilt = (program : Program) × HasJudged text program
-IsUnbuiltText text OutOfMemory = ⊤
-IsUnbuiltText text BadCommandLine = ⊥
-IsUnbuiltText text TooLong = ⊥
-IsUnbuiltText text (NotUtf8 at) = ⊥
-IsUnbuiltText text ReadFault = ⊥
-
--- when an order that doesn't run yet is refused so: its source is refused, or has no fault and this isn't built
-abbrev pub IsRefusedUnbuilt : Files → (file : List ℕ) → Refusal → Type 0
-IsRefusedUnbuilt files file BadCommandLine = ⊥
-IsRefusedUnbuilt files file ReadFault = IsRefusedSource files file ReadFault
-IsRefusedUnbuilt files file TooLong = IsRefusedSource files file TooLong
-IsRefusedUnbuilt files file (NotUtf8 at) = IsRefusedSource files file (NotUtf8 at)
-IsRefusedUnbuilt files file (Source fault) = (text : List ℕ) × HasText files file text × IsUnbuiltText text (Source fault)
-IsRefusedUnbuilt files file NotBuilt = (text : List ℕ) × HasText files file text × IsUnbuiltText text NotBuilt
-IsRefusedUnbuilt files file OutOfMemory = ⊤
-
--- when an order is refused so, by whether it runs so far and by its source
-abbrev pub IsRefusedBy : (runs_so_far : Bool) → Option (List ℕ) → Files → Refusal → Type 0
-IsRefusedBy true (Some file) files refusal = IsRefusedSource files file refusal
-IsRefusedBy false (Some file) files refusal = IsRefusedUnbuilt files file refusal
-IsRefusedBy _ None files refusal = refusal ≡ NotBuilt
-
+-- when an order is refused so: its source is, where it is about one, or it isn't built
 abbrev pub IsRefusedOrder : PlainOrder → Files → Refusal → Type 0
-IsRefusedOrder order = IsRefusedBy (runs order) (source_of order)
+IsRefusedOrder (run file script steps workers) files refusal = IsRefusedSource (IsNotRun (runs script steps)) files file refusal
+IsRefusedOrder (check file) files refusal = IsRefusedSource IsNone files file refusal
+IsRefusedOrder (code file) files refusal = IsRefusedSource IsAcceptedText files file refusal
+IsRefusedOrder (generate stages workers) files refusal = refusal ≡ NotBuilt
+IsRefusedOrder (migrate file) files refusal = refusal ≡ NotBuilt
 
 -- when a command is refused so: its words are no order, or its order is refused
 abbrev pub IsDue : List (List ℕ) → Files → Refusal → Type 0

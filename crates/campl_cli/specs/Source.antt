@@ -1,5 +1,5 @@
 -- What a source is: its tokens, their layout, the tree of its terminals, names that are well declared, and functions
--- that are typed; or its first fault.
+-- and processes that are typed; or its first fault.
 use Rattle.std.specs.Prelude.{◌≡◌, ◌⊎◌, Option, Some, None, ℕ, List, ◌∷◌, Ok, Err, chars, ⊤}
 use Rattle.campl_tree.specs.declared.place.Place.{Place}
 use Rattle.campl_tree.specs.declared.decl.Program.{Program}
@@ -19,12 +19,15 @@ use Rattle.campl_cli.specs.declared.refusal.Refusal.{Refusal}
 use Rattle.campl_cli.specs.declared.refusal.Refusal.TheVariants.{BadCommandLine, ReadFault, TooLong, NotUtf8, Source, NotBuilt, OutOfMemory}
 use Rattle.campl_cli.specs.declared.source.TreeFault.{TreeFault}
 use Rattle.campl_cli.specs.declared.source.TreeFault.TheVariants as tree
-use Rattle.campl_cli.specs.declared.fault.FaultKind.TheVariants.{Text, Name, Function}
+use Rattle.campl_cli.specs.declared.fault.FaultKind.TheVariants.{Text, Name, Function, Process}
 use Rattle.campl_cli.specs.declared.kind.TextKind.{TextKind}
 use Rattle.campl_cli.specs.declared.kind.TextKind.TheVariants.{BadCharacter, OpenString, BadEscape, NumberTooLarge, NameTooLong, Tab, BadColumn, TextTooLong, Unexpected, TooDeep}
 use Rattle.campl_cli.specs.declared.kind.NameKind.TheVariants.{Twice, Unknown, WrongKind, NoRun, RunNotService, TypeArguments}
 use Rattle.campl_cli.specs.declared.kind.FunctionKind.TheVariants.{TypeDiffers, NeedsType, NotExhaustive, ArgumentCount, NameTwiceInPattern}
-use Rattle.campl_cli.specs.declared.fault.Detail.TheVariants.{Nothing, Named, Counted, Differing, Missing}
+use Rattle.campl_cli.specs.declared.kind.ProcessKind.{ProcessKind}
+use Rattle.campl_cli.specs.declared.kind.ProcessKind.TheVariants.{NotHeld, LeftOver, WrongAction, PlugUse, PlugCycle, PlugApart, CaseMissing, CaseTwice, RaceForm, IdentityType, CallChannels, PartCount}
+use Rattle.campl_cli.specs.declared.fault.Detail.{Detail}
+use Rattle.campl_cli.specs.declared.fault.Detail.TheVariants.{Nothing, Named, Counted, Differing, Missing, Channel, HeldSo, Link, Part, Constructor}
 use Rattle.campl_tree.specs.View.{view_program}
 use Rattle.campl_tree.specs.Plain.Decl as d
 use Rattle.campl_types.specs.declared.fault.NameFault.{NameFault}
@@ -36,6 +39,12 @@ use Rattle.campl_seqcheck.specs.declared.fault.SeqFault.{SeqFault}
 use Rattle.campl_seqcheck.specs.declared.fault.SeqFault.TheVariants as typing
 use Rattle.campl_seqcheck.specs.Functions.{judge_functions}
 use Rattle.campl_seqcheck.specs.Judged.{Fails}
+use Rattle.campl_shown.specs.Types.{chan_text}
+use Rattle.campl_linear.specs.Faults.{LinFault}
+use Rattle.campl_linear.specs.Faults as linear
+use Rattle.campl_linear.specs.Processes.{judge_processes}
+use Rattle.campl_meaning.specs.Lawful.{IsAccepted}
+use Rattle.campl_types.specs.Names as n
 
 -- the text has these tokens
 abbrev pub HasTokens : List ℕ → List Token → Type 0
@@ -70,14 +79,13 @@ IsTextFault text BadColumn at = (tokens : List Token) × HasTokens text tokens �
 IsTextFault text Unexpected at = HasNoTree text (Stops limit IsProgram) at
 IsTextFault text TooDeep at = HasNoTree text (Sinks limit IsProgram) at
 
--- names are well declared, and functions typed
-pub record IsJudged (program : d.Program) : Type 0 where
-  pub names : IsWellDeclared program
-  pub functions : FunctionsAreTyped (world_of program) program
+-- the text is accepted: it has a tree whose names are well declared, whose functions and processes are typed, and in
+-- which the parts of each plug are a tree
+abbrev pub IsAcceptedAs : List ℕ → Program → Type 0
+IsAcceptedAs text program = HasTree text program × IsAccepted (view_program program)
 
--- the text has a tree, of which that holds
-abbrev pub HasJudged : List ℕ → Program → Type 0
-HasJudged text program = HasTree text program × IsJudged (view_program program)
+abbrev pub IsAcceptedText : List ℕ → Type 0
+IsAcceptedText text = (program : Program) × IsAcceptedAs text program
 
 -- how a fault of names is told
 abbrev pub told_of_names : NameFault → Option SourceFault
@@ -107,15 +115,46 @@ abbrev pub IsToldOfFunctions : d.Program → SourceFault → Type 0
 IsToldOfFunctions program f =
     IsWellDeclared program × ((fault : SeqFault) × (judge_functions (world_of program) program ≡ Fails fault) × (told_of_functions fault ≡ Some f))
 
+-- the channel that is named, if one is
+abbrev pub channel_if_named : Option n.Name → Detail
+channel_if_named (Some x) = Channel x
+channel_if_named None = Nothing
+
+-- how a fault of processes is told
+abbrev pub told_of_processes : LinFault → Option SourceFault
+told_of_processes (linear.Seq fault) = told_of_functions fault
+told_of_processes (linear.NotHeld at x) = Some (record { kind = Process NotHeld; place = at; detail = Channel x })
+told_of_processes (linear.LeftOver at x) = Some (record { kind = Process LeftOver; place = at; detail = Channel x })
+told_of_processes (linear.WrongAction at x t side) = Some (record { kind = Process WrongAction; place = at; detail = HeldSo x (chan_text t) side })
+told_of_processes (linear.PlugUse at x) = Some (record { kind = Process PlugUse; place = at; detail = Channel x })
+told_of_processes (linear.PlugCycle at x) = Some (record { kind = Process PlugCycle; place = at; detail = Link x })
+told_of_processes (linear.PlugApart at p) = Some (record { kind = Process PlugApart; place = at; detail = Part p })
+told_of_processes (linear.CaseMissing at k) = Some (record { kind = Process CaseMissing; place = at; detail = Constructor k })
+told_of_processes (linear.CaseTwice at k) = Some (record { kind = Process CaseTwice; place = at; detail = Constructor k })
+told_of_processes (linear.RaceForm at) = Some (record { kind = Process RaceForm; place = at; detail = Nothing })
+told_of_processes (linear.IdentityType at) = Some (record { kind = Process IdentityType; place = at; detail = Nothing })
+told_of_processes (linear.CallChannels at x) = Some (record { kind = Process CallChannels; place = at; detail = channel_if_named x })
+told_of_processes (linear.PartCount at) = Some (record { kind = Process PartCount; place = at; detail = Nothing })
+told_of_processes linear.OutOfMemory = None
+
+-- the first fault of the processes of a program whose names and functions have none, as it is told
+abbrev pub IsToldOfProcesses : d.Program → SourceFault → Type 0
+IsToldOfProcesses program f =
+    IsWellDeclared program × FunctionsAreTyped (world_of program) program
+    × ((fault : LinFault) × (judge_processes (world_of program) program ≡ Fails fault) × (told_of_processes fault ≡ Some f))
+
+-- a tree's first fault: the first of its names, or else of its functions, or else of its processes
+abbrev pub IsToldOfTree : d.Program → SourceFault → Type 0
+IsToldOfTree program f = IsToldOfNames program f ⊎ (IsToldOfFunctions program f ⊎ IsToldOfProcesses program f)
+
 -- the text's first fault of tokens, of layout or of the grammar, as it is told: with no detail
 abbrev pub IsToldOfText : List ℕ → SourceFault → Type 0
 IsToldOfText text f =
     (kind : TextKind) × (f ≡ record { kind = Text kind; place = f.place; detail = Nothing }) × IsTextFault text kind f.place
 
--- the text's first fault: that, or where it has a tree, the first of its names, or else of its functions
+-- the text's first fault: that, or where it has a tree, the tree's
 abbrev pub IsSourceFault : List ℕ → SourceFault → Type 0
-IsSourceFault text f =
-    IsToldOfText text f ⊎ ((program : Program) × HasTree text program × (IsToldOfNames (view_program program) f ⊎ IsToldOfFunctions (view_program program) f))
+IsSourceFault text f = IsToldOfText text f ⊎ ((program : Program) × HasTree text program × IsToldOfTree (view_program program) f)
 
 -- a fault of tokens or of layout, as one of the tree
 abbrev pub tree_fault_of : LexFault → TreeFault
@@ -152,7 +191,19 @@ refusal_of_naming fault = refused_for (told_of_names fault)
 abbrev pub refusal_of_typing : SeqFault → Refusal
 refusal_of_typing fault = refused_for (told_of_functions fault)
 
--- a program is refused for a fault that is told so; want of memory alone comes freely
+-- the refusal for a fault of processes
+abbrev pub refusal_of_processes : LinFault → Refusal
+refusal_of_processes fault = refused_for (told_of_processes fault)
+
+-- the refusal for processes that are wrong so
+abbrev pub refused_as : ProcessKind → Place → Detail → Refusal
+refused_as kind at detail = Source (record { kind = Process kind; place = at; detail = detail })
+
+-- a refusal is this, or memory ran out
+abbrev pub IsOrStarves : (told refusal : Refusal) → Type 0
+IsOrStarves told refusal = (refusal ≡ told) ⊎ (refusal ≡ OutOfMemory)
+
+-- something is refused for a fault that is told so; want of memory alone comes freely
 abbrev pub IsRefusedFor : (SourceFault → Type 0) → Refusal → Type 0
 IsRefusedFor told (Source f) = told f
 IsRefusedFor told OutOfMemory = ⊤
@@ -161,15 +212,3 @@ IsRefusedFor told TooLong = ⊥
 IsRefusedFor told (NotUtf8 at) = ⊥
 IsRefusedFor told NotBuilt = ⊥
 IsRefusedFor told ReadFault = ⊥
-
--- a program whose names aren't well declared is refused for their first fault
-abbrev pub IsRefusedForNames : d.Program → Refusal → Type 0
-IsRefusedForNames program = IsRefusedFor (IsToldOfNames program)
-
--- and a program that is, for the first of its functions
-abbrev pub IsRefusedForFunctions : d.Program → Refusal → Type 0
-IsRefusedForFunctions program = IsRefusedFor (IsToldOfFunctions program)
-
--- for either
-abbrev pub IsRefusedJudged : d.Program → Refusal → Type 0
-IsRefusedJudged program = IsRefusedFor (λ f. IsToldOfNames program f ⊎ IsToldOfFunctions program f)

@@ -1,14 +1,16 @@
-//! The command: words, reading the source, the run, and the writing.
-ghost use Rattle.std.specs.Prelude.{MatchResult, IfErr, IfOk, map, string_bytes};
+//! The command: words, reading and judging the source, the run, and the writing.
+ghost use Rattle.std.specs.Prelude.{MatchResult, map, string_bytes};
 ghost use Rattle.campl_cli.specs.Answer.{stream, IsAnswer};
 ghost use Rattle.campl_cli.specs.Form.{Prints, prints_of};
-ghost use Rattle.campl_cli.specs.Performance.{IsPerformance};
-ghost use Rattle.campl_cli.specs.Refusals.{files, PrintsText, IsRefusedText, IsSource, IsRefusedOrder, IsRefusedSource, IsRefusedUnbuilt, IsUnbuiltText, IsAccepted, IsDue, RunsTo};
+ghost use Rattle.campl_cli.specs.Performance.{IsAcceptance, IsDone, IsPerformance};
+ghost use Rattle.campl_cli.specs.Refusals.{files, HasText, PrintsText, IsAcceptedFile, IsDue, IsNone, IsNotRun, IsOfAnotherForm, IsRefusedOrder, IsRefusedSource, IsRefusedText, IsSource, IsUnread};
+ghost use Rattle.campl_cli.specs.Source.{IsAcceptedText, IsRefusedFor, IsSourceFault};
+ghost use Rattle.campl_orders.specs.Orders.{IsOrder, PlainOrder};
 ghost use Rattle.campl_orders.specs.Reading.{view};
 
-use crate::functions::judge;
+use crate::acceptance::judge;
 use crate::gate::Gate;
-use crate::performance::{Performance, perform, print};
+use crate::performance::{Performance, accept, perform, print};
 use crate::printer::{Printer, printer_of};
 use crate::refusal::{Refusal, SOURCE_LIMIT};
 use crate::report::Report;
@@ -21,9 +23,10 @@ use std::thread::Threads;
 
 /// Does what the words order, which are those after the program's name; `campl_orders` lists the orders.
 ///
-/// It reads the source FILE from the shelf, runs it, and writes its output onto `out`. Where it is refused it writes one line onto
-/// `err` instead. So far a run without a script and with the usual budget is done, and other orders are refused behind the check of
-/// their source. `docs/LANGUAGE.md` lists the statuses. The runtime and the gate serve runs of several workers.
+/// It reads the source FILE from the shelf, checks or runs it, and writes its output onto `out`. Where it is refused it writes one
+/// line onto `err` instead. So far sources are checked, and a run without a script and with the usual budget is done; other orders
+/// are refused behind the check of their source. `docs/LANGUAGE.md` lists the statuses. The runtime and the gate serve runs of
+/// several workers.
 pub fn campl<R: Threads + Sync, F: Shelf, O: Sink, E: Sink, G: Gate>(
     rt: &R,
     alloc: Global,
@@ -47,14 +50,14 @@ pub fn campl<R: Threads + Sync, F: Shelf, O: Sink, E: Sink, G: Gate>(
     }
 }
 
-// Runs the source of the file that the words name.
+// Does what the words order.
 fn perform_words<F: Shelf>(
     alloc: Global,
     words: &[String],
     shelf: &mut F,
 ) -> Result<Performance, Refusal>
     ensures { MatchResult result
-        (λ performance. (p : Prints) × IsAccepted (map string_bytes words.now) (files F.holds F.faults shelf.old shelf.new) p × IsPerformance p performance)
+        (λ performance. (order : PlainOrder) × IsOrder (map string_bytes words.now) order × IsDone order (files F.holds F.faults shelf.old shelf.new) performance)
         (IsDue (map string_bytes words.now) (files F.holds F.faults shelf.old shelf.new)) }
 {
     match read_words(words) {
@@ -63,15 +66,15 @@ fn perform_words<F: Shelf>(
     }
 }
 
-// Does what is ordered, as far as it is built: a run without a script and with the usual budget. Of any other order that is about a
-// source that is checked.
+// Does what is ordered, as far as it is built: a check, and a run without a script and with the usual budget. Of any other order
+// that is about a source that is checked.
 fn perform_order<F: Shelf>(
     alloc: Global,
     order: Order<'_>,
     shelf: &mut F,
 ) -> Result<Performance, Refusal>
     ensures { MatchResult result
-        (λ performance. (p : Prints) × RunsTo (view order.entry) (files F.holds F.faults shelf.old shelf.new) p × IsPerformance p performance)
+        (IsDone (view order.entry) (files F.holds F.faults shelf.old shelf.new))
         (IsRefusedOrder (view order.entry) (files F.holds F.faults shelf.old shelf.new)) }
 {
     match order {
@@ -80,14 +83,14 @@ fn perform_order<F: Shelf>(
             script: None,
             steps: STEPS,
             workers: _,
-        } => perform_file(alloc, file, shelf),
+        } => run_file(alloc, file, shelf),
         Order::Run {
             file,
             script: _,
             steps: _,
             workers: _,
         } => Err(unbuilt(alloc, file, shelf)),
-        Order::Check { file } => Err(unbuilt(alloc, file, shelf)),
+        Order::Check { file } => check_file(alloc, file, shelf),
         Order::Code { file } => Err(unbuilt(alloc, file, shelf)),
         Order::Generate {
             stages: _,
@@ -97,27 +100,48 @@ fn perform_order<F: Shelf>(
     }
 }
 
-// Runs the source of a file.
-fn perform_file<F: Shelf>(alloc: Global, file: &str, shelf: &mut F) -> Result<Performance, Refusal>
+// Checks the source of a file.
+fn check_file<F: Shelf>(alloc: Global, file: &str, shelf: &mut F) -> Result<Performance, Refusal>
     ensures { MatchResult result
-        (λ performance. (p : Prints) × IsSource (files F.holds F.faults shelf.old shelf.new) file.now p × IsPerformance p performance)
-        (IsRefusedSource (files F.holds F.faults shelf.old shelf.new) file.now) }
+        (λ performance. IsAcceptedFile (files F.holds F.faults shelf.old shelf.new) file.now × IsAcceptance performance)
+        (IsRefusedSource IsNone (files F.holds F.faults shelf.old shelf.new) file.now) }
 {
-    let printer = read_source(alloc, file, shelf)?;
-    match perform(alloc, &printer) {
-        Ok(performance) => Ok(performance),
-        Err(_) => Err(Refusal::OutOfMemory),
+    match read_source(alloc, file, shelf) {
+        Ok(text) => check_text(alloc, &text),
+        Err(refusal) => Err(refusal),
     }
 }
 
-// Reads the source of a file into its parts.
-fn read_source<F: Shelf>(alloc: Global, file: &str, shelf: &mut F) -> Result<Printer, Refusal>
+// Runs the source of a file.
+fn run_file<F: Shelf>(alloc: Global, file: &str, shelf: &mut F) -> Result<Performance, Refusal>
     ensures { MatchResult result
-        (λ printer. IsSource (files F.holds F.faults shelf.old shelf.new) file.now (prints_of printer))
-        (IsRefusedSource (files F.holds F.faults shelf.old shelf.new) file.now) }
+        (λ performance. (p : Prints) × IsSource (files F.holds F.faults shelf.old shelf.new) file.now p × IsPerformance p performance)
+        (IsRefusedSource IsOfAnotherForm (files F.holds F.faults shelf.old shelf.new) file.now) }
+{
+    match read_source(alloc, file, shelf) {
+        Ok(text) => run_text(alloc, &text),
+        Err(refusal) => Err(refusal),
+    }
+}
+
+// Why an order about the source of a file isn't done yet: the source is refused, or else this isn't built.
+fn unbuilt<F: Shelf>(alloc: Global, file: &str, shelf: &mut F) -> Refusal
+    ensures { IsRefusedSource IsAcceptedText (files F.holds F.faults shelf.old shelf.new) file.now result }
+{
+    match read_source(alloc, file, shelf) {
+        Ok(text) => unbuilt_text(alloc, &text),
+        Err(refusal) => refusal,
+    }
+}
+
+// Reads the text of a source.
+fn read_source<F: Shelf>(alloc: Global, file: &str, shelf: &mut F) -> Result<Text, Refusal>
+    ensures { MatchResult result
+        (λ text. HasText (files F.holds F.faults shelf.old shelf.new) file.now text)
+        (IsUnread (files F.holds F.faults shelf.old shelf.new) file.now) }
 {
     match read_text(alloc, shelf, file, SOURCE_LIMIT) {
-        Ok(text) => read_printer(alloc, &text),
+        Ok(text) => Ok(text),
         Err(TextFault::ReadFault) => Err(Refusal::ReadFault),
         Err(TextFault::TooLong) => Err(Refusal::TooLong),
         Err(TextFault::NotUtf8 { at }) => Err(Refusal::NotUtf8 { at }),
@@ -125,9 +149,37 @@ fn read_source<F: Shelf>(alloc: Global, file: &str, shelf: &mut F) -> Result<Pri
     }
 }
 
-// Reads a text into its parts.
+// Checks a text.
+fn check_text(alloc: Global, text: &Text) -> Result<Performance, Refusal>
+    ensures { MatchResult result (λ performance. IsAcceptedText text.now × IsAcceptance performance) (IsRefusedText IsNone text.now) }
+{
+    match judge_text(alloc, text) {
+        Ok(()) => {}
+        Err(refusal) => return Err(refusal),
+    }
+    match accept(alloc) {
+        Ok(performance) => Ok(performance),
+        Err(_) => Err(Refusal::OutOfMemory),
+    }
+}
+
+// Runs a text.
+fn run_text(alloc: Global, text: &Text) -> Result<Performance, Refusal>
+    ensures { MatchResult result (λ performance. (p : Prints) × PrintsText text.now p × IsPerformance p performance) (IsRefusedText IsOfAnotherForm text.now) }
+{
+    let printer = match read_printer(alloc, text) {
+        Ok(printer) => printer,
+        Err(refusal) => return Err(refusal),
+    };
+    match perform(alloc, &printer) {
+        Ok(performance) => Ok(performance),
+        Err(_) => Err(Refusal::OutOfMemory),
+    }
+}
+
+// What an accepted text prints.
 fn read_printer(alloc: Global, text: &Text) -> Result<Printer, Refusal>
-    ensures { MatchResult result (λ printer. PrintsText text.now (prints_of printer)) (IsRefusedText text.now) }
+    ensures { MatchResult result (λ printer. PrintsText text.now (prints_of printer)) (IsRefusedText IsOfAnotherForm text.now) }
 {
     let program = match tree_of(alloc, text) {
         Ok(program) => program,
@@ -143,28 +195,22 @@ fn read_printer(alloc: Global, text: &Text) -> Result<Printer, Refusal>
     }
 }
 
-// Why an order about the source of a file isn't done yet: the source is refused, or else this isn't built.
-fn unbuilt<F: Shelf>(alloc: Global, file: &str, shelf: &mut F) -> Refusal
-    ensures { IsRefusedUnbuilt (files F.holds F.faults shelf.old shelf.new) file.now result }
+// Why an order about a text isn't done yet.
+fn unbuilt_text(alloc: Global, text: &Text) -> Refusal
+    ensures { IsRefusedText IsAcceptedText text.now result }
 {
-    match read_text(alloc, shelf, file, SOURCE_LIMIT) {
-        Ok(text) => unbuilt_text(alloc, &text),
-        Err(TextFault::ReadFault) => Refusal::ReadFault,
-        Err(TextFault::TooLong) => Refusal::TooLong,
-        Err(TextFault::NotUtf8 { at }) => Refusal::NotUtf8 { at },
-        Err(TextFault::OutOfMemory) => Refusal::OutOfMemory,
+    match judge_text(alloc, text) {
+        Ok(()) => Refusal::NotBuilt,
+        Err(refusal) => refusal,
     }
 }
 
-// The same of a text.
-fn unbuilt_text(alloc: Global, text: &Text) -> Refusal
-    ensures { IsUnbuiltText text.now result }
+// Whether a text is accepted.
+fn judge_text(alloc: Global, text: &Text) -> Result<(), Refusal>
+    ensures { MatchResult result (λ _. IsAcceptedText text.now) (IsRefusedFor (IsSourceFault text.now)) }
 {
     match tree_of(alloc, text) {
-        Ok(program) => match judge(alloc, program) {
-            Ok(()) => Refusal::NotBuilt,
-            Err(refusal) => refusal,
-        },
-        Err(fault) => Refusal::of_text(fault),
+        Ok(program) => judge(alloc, program),
+        Err(fault) => Err(Refusal::of_text(fault)),
     }
 }

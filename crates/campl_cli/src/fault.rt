@@ -1,10 +1,10 @@
 //! Faults of a source.
 ghost use Rattle.std.specs.Prelude.{◌≡◌};
-ghost use Rattle.campl_cli.specs.Faults.{code_of};
+ghost use Rattle.campl_cli.specs.Faults.{code_of, word_of_side};
 
 use crate::kind::{FunctionKind, NameKind, ProcessKind, TextKind};
 use campl_shown::Shown;
-use campl_tree::{Name, Place};
+use campl_tree::{Name, Place, Side};
 use thiserror::Error;
 
 /// The first fault of a source, at its place.
@@ -33,13 +33,31 @@ pub enum Detail {
     /// The patterns that no row covers.
     #[error(": missing {0}")]
     Missing(Shown),
+    /// The channel that is at fault.
+    #[error(": channel {0}")]
+    Channel(Name),
+    /// The channel that is at fault, with its type and the side on which it is held.
+    #[error(": channel {0} has {1} on the {side} side", side = side_word(.2))]
+    HeldSo(Name, Shown, Side),
+    /// The link that is at fault.
+    #[error(": link {0}")]
+    Link(Name),
+    /// The number of the part that is at fault, from 1.
+    #[error(": part {0}")]
+    Part(usize),
+    /// The constructor that is at fault.
+    #[error(": constructor {0}")]
+    Constructor(Name),
 }
 
 impl Drop for Detail {
     fn drop(self) {
         match self {
             Detail::Nothing => {}
-            Detail::Named(name) => drop(name),
+            Detail::Named(name)
+            | Detail::Channel(name)
+            | Detail::Link(name)
+            | Detail::Constructor(name) => drop(name),
             Detail::Counted {
                 found: _,
                 wanted: _,
@@ -49,7 +67,22 @@ impl Drop for Detail {
                 drop(wanted);
             }
             Detail::Missing(patterns) => drop(patterns),
+            Detail::HeldSo(channel, held, _) => {
+                drop(channel);
+                drop(held);
+            }
+            Detail::Part(_) => {}
         }
+    }
+}
+
+/// A side, as refusals write it.
+pub(crate) fn side_word(side: &Side) -> &'static str
+    ensures { result.now ≡ word_of_side side.now }
+{
+    match side {
+        Side::Input => "input",
+        Side::Output => "output",
     }
 }
 

@@ -1,44 +1,33 @@
 //! Whether the functions of a program are typed.
 ghost use Rattle.std.specs.Prelude.{◌≡◌, MatchResult, map};
-ghost use Rattle.campl_tree.specs.View.{view_decl, view_program};
+ghost use Rattle.campl_tree.specs.View.{view_decl};
 ghost use Rattle.campl_types.specs.WellDeclared.{IsWellDeclared};
 ghost use Rattle.campl_types.specs.World.{world_of};
 ghost use Rattle.campl_types.specs.Sequential.{FunctionsAreTyped};
 ghost use Rattle.campl_tree.specs.Plain.Decl.{Program as Seen};
-ghost use Rattle.campl_cli.specs.Source.{IsJudged, IsRefusedForFunctions, IsRefusedJudged, refusal_of_typing};
+ghost use Rattle.campl_cli.specs.Source.{IsRefusedFor, IsToldOfFunctions, refusal_of_typing};
 
 use crate::fault::{Detail, FaultKind, SourceFault};
 use crate::kind::FunctionKind;
-use crate::names::judge_names;
 use crate::refusal::Refusal;
 use campl_names::World;
 use campl_seqcheck::{SeqFault, check_functions};
-use campl_tree::{Place, Program};
+use campl_tree::Place;
 use std::alloc::Global;
-
-/// Judges a program: its names, and then its functions.
-pub fn judge(alloc: Global, program: Program) -> Result<(), Refusal>
-    ensures { MatchResult result (λ _. IsJudged (view_program program)) (IsRefusedJudged (view_program program)) }
-{
-    match judge_names(alloc, program) {
-        Ok(world) => judge_functions(alloc, &world),
-        Err(refusal) => Err(refusal),
-    }
-}
 
 /// Judges the functions of the world of a well declared program.
 pub fn judge_functions(alloc: Global, world: &World) -> Result<(), Refusal>
     ensures { (program : Seen) → IsWellDeclared program → map view_decl world.now ≡ world_of program
-        → MatchResult result (λ _. FunctionsAreTyped (world_of program) program) (IsRefusedForFunctions program) }
+        → MatchResult result (λ _. FunctionsAreTyped (world_of program) program) (IsRefusedFor (IsToldOfFunctions program)) }
 {
     match check_functions(alloc, world, world.declarations()) {
         Ok(()) => Ok(()),
-        Err(fault) => Err(refusal_of(fault)),
+        Err(fault) => Err(refusal_of_function(fault)),
     }
 }
 
-// The refusal for a fault of functions.
-fn refusal_of(fault: SeqFault) -> Refusal
+/// The refusal for a fault of functions.
+pub(crate) fn refusal_of_function(fault: SeqFault) -> Refusal
     ensures { result ≡ refusal_of_typing fault }
 {
     match fault {

@@ -1,8 +1,10 @@
 //! The command: it reads a source, judges it, runs it and writes what came out, or the one line of its refusal.
 //!
-//! So far the program runs that prints texts on one console, closes it and halts.
+//! Every source is judged, and `check` tells of one that it is accepted. So far the program runs that prints texts on one
+//! console, closes it and halts.
 #![tactic(auto)]
 
+mod acceptance;
 mod command;
 mod fault;
 mod functions;
@@ -12,19 +14,22 @@ mod names;
 mod output;
 mod performance;
 mod printer;
+mod processes;
 mod refusal;
 mod report;
 mod runner;
 mod source;
 mod telling;
 
+pub use acceptance::{judge, one_verdict};
 pub use command::campl;
 pub use fault::{Detail, FaultKind, SourceFault};
-pub use functions::{judge, judge_functions};
+pub use functions::judge_functions;
 pub use gate::{Gate, OpenGate};
 pub use kind::{FunctionKind, NameKind, ProcessKind, TextKind};
 pub use names::judge_names;
 pub use printer::{Printer, printer_of};
+pub use processes::judge_processes;
 pub use refusal::{Refusal, SOURCE_LIMIT};
 pub use report::{Ended, Report};
 pub use source::{TreeFault, one_answer, tree_of};

@@ -3,7 +3,7 @@ ghost use Rattle.std.specs.Prelude.{◌≡◌, IfOk, MatchResult, map};
 ghost use Rattle.campl_tree.specs.View.{view_decl, view_program};
 ghost use Rattle.campl_types.specs.WellDeclared.{IsWellDeclared};
 ghost use Rattle.campl_types.specs.World.{world_of};
-ghost use Rattle.campl_cli.specs.Source.{refusal_of_naming, IsRefusedForNames};
+ghost use Rattle.campl_cli.specs.Source.{IsRefusedFor, IsToldOfNames, refusal_of_naming};
 
 use crate::fault::{Detail, FaultKind, SourceFault};
 use crate::kind::NameKind;
@@ -15,7 +15,7 @@ use std::alloc::Global;
 
 /// The world of a program whose names are well declared.
 pub fn judge_names(alloc: Global, program: Program) -> Result<World, Refusal>
-    ensures judged { MatchResult result (λ _. IsWellDeclared (view_program program)) (IsRefusedForNames (view_program program)) }
+    ensures judged { MatchResult result (λ _. IsWellDeclared (view_program program)) (IsRefusedFor (IsToldOfNames (view_program program))) }
     ensures world { IfOk result (λ world. map view_decl world ≡ world_of (view_program program)) }
 {
     match declare(alloc, program) {

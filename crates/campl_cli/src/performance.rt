@@ -1,9 +1,9 @@
-//! What a run did and prints, before any of it is written.
-ghost use Rattle.std.specs.Prelude.{◌≡◌, Some, IfOk};
+//! What an order came to and prints, before any of it is written.
+ghost use Rattle.std.specs.Prelude.{◌≡◌, IfOk};
 ghost use Rattle.campl_config.specs.Journal.{weight_of};
 ghost use Rattle.campl_cli.specs.Answer.{stream, HadOrFailed};
 ghost use Rattle.campl_cli.specs.Form.{IsFine, prints_of};
-ghost use Rattle.campl_cli.specs.Performance.{IsPerformance, IsPrinted};
+ghost use Rattle.campl_cli.specs.Performance.{IsAcceptance, IsPerformance, IsPrinted};
 ghost use Rattle.campl_cli.specs.Refusals.{write_fault_line};
 
 use crate::output::output;
@@ -18,11 +18,27 @@ use std::alloc::{AllocError, Global};
 /// The line that tells a failed write; writing it takes no memory.
 const WRITE_FAULT_LINE: &str = "campl: write fault\n";
 
-/// What a run did, and what it prints.
+/// What an order came to, and what it prints.
 #[derive(Drop)]
 pub struct Performance {
+    /// What was done, the oldest first; empty where nothing ran.
     pub journal: Journal,
+    /// How the run ended, and `None` where nothing ran.
+    pub ended: Option<Ended>,
     pub output: Vec<u8>,
+}
+
+/// Tells that a source is accepted.
+pub fn accept(alloc: Global) -> Result<Performance, AllocError>
+    ensures { IfOk result IsAcceptance }
+{
+    let mut output = Vec::new(alloc);
+    output.extend_from_slice(b"accepted\n")?;
+    Ok(Performance {
+        journal: Journal::new(alloc),
+        ended: None,
+        output,
+    })
 }
 
 /// Runs a printer, and builds its whole output.
@@ -33,22 +49,30 @@ pub fn perform(alloc: Global, printer: &Printer) -> Result<Performance, AllocErr
     let texts = printer.texts.as_slice();
     let journal = run(alloc, texts)?;
     let output = output(alloc, &printer.console, texts, journal.weight())?;
-    Ok(Performance { journal, output })
+    Ok(Performance {
+        journal,
+        ended: Some(Ended::Finished),
+        output,
+    })
 }
 
-/// Writes the output, and reports the run: with status 0, or 6 where the output couldn't be written.
+/// Writes the output, and reports what was done: with status 0, or 6 where the output couldn't be written.
 pub fn print<O: Sink, E: Sink>(performance: Performance, out: &mut O, err: &mut E) -> Report
     ensures { IsPrinted performance
         (stream O.written O.faults out.old out.new)
         (stream E.written E.faults err.old err.new)
         result }
 {
-    let Performance { journal, output } = performance;
+    let Performance {
+        journal,
+        ended,
+        output,
+    } = performance;
     match write_all_of(out, output.as_slice()) {
-        Ok(()) => finished(0, journal),
+        Ok(()) => report(0, ended, journal),
         Err(_) => {
             tell_write_fault(err);
-            finished(WRITE_FAULT, journal)
+            report(WRITE_FAULT, ended, journal)
         }
     }
 }
@@ -63,17 +87,17 @@ fn tell_write_fault<E: Sink>(err: &mut E)
     }
 }
 
-// The report of a finished run.
-fn finished(status: u8, journal: Journal) -> Report
+// The report of what was done.
+fn report(status: u8, ended: Option<Ended>, journal: Journal) -> Report
     ensures status { result.status ≡ status }
-    ensures ended { result.ended ≡ Some Ended.Finished }
+    ensures ended { result.ended ≡ ended }
     ensures steps { result.steps ≡ weight_of journal.entries }
     ensures journal { result.journal ≡ journal }
 {
     let steps = journal.weight();
     Report {
         status,
-        ended: Some(Ended::Finished),
+        ended,
         steps,
         journal,
     }

@@ -2,14 +2,17 @@
 ghost use Rattle.std.specs.Prelude.{◌≡◌, ◌≢◌, ◌⊎◌, ◌++◌, ◌∷◌, [], codes, IfOk, MatchOption, string_bytes};
 ghost use Rattle.std.specs.Fmt.{decimal};
 ghost use Rattle.campl_cli.specs.Faults.{message_of_detail};
+ghost use Rattle.campl_cli.specs.declared.fault.Detail.TheVariants.{HeldSo};
 ghost use Rattle.campl_cli.specs.Refusals.{TakesMemory, line_of, status_of};
 ghost use Rattle.campl_cli.specs.Answer.{stream, IsTold, IsRefused, HasNoRun};
 
-use crate::fault::{Detail, SourceFault};
+use crate::fault::{Detail, SourceFault, side_word};
 use crate::refusal::Refusal;
 use crate::report::Report;
 use campl_config::Journal;
+use campl_shown::Shown;
 use campl_text::{Sink, write_all_of};
+use campl_tree::{Name, Side};
 use std::alloc::{AllocError, Global};
 
 /// The status where writing failed.
@@ -98,7 +101,25 @@ fn message_of(alloc: Global, detail: &Detail) -> Result<String, AllocError>
             format!(in alloc; ": found {found}, wanted {wanted}")
         }
         Detail::Missing(patterns) => format!(in alloc; ": missing {patterns}"),
+        Detail::Channel(name) => format!(in alloc; ": channel {name}"),
+        Detail::HeldSo(channel, held, side) => message_of_held(alloc, channel, held, side),
+        Detail::Link(name) => format!(in alloc; ": link {name}"),
+        Detail::Part(number) => format!(in alloc; ": part {number}"),
+        Detail::Constructor(name) => format!(in alloc; ": constructor {name}"),
     }
+}
+
+// What is told of a channel, its type and its side.
+fn message_of_held(
+    alloc: Global,
+    channel: &Name,
+    held: &Shown,
+    side: &Side,
+) -> Result<String, AllocError>
+    ensures { IfOk result (λ message. string_bytes message ≡ message_of_detail (HeldSo channel.now held.now side.now)) }
+{
+    let side = side_word(side);
+    format!(in alloc; ": channel {channel} has {held} on the {side} side")
 }
 
 // The line of a fault with this number and name, at this line and column.

@@ -1,12 +1,13 @@
 //! Reads files of cases, and prints for each case how far its source is accepted, or its first fault.
 //!
 //! The words are pairs of a phase and a file. `grammar FILE` prints `tree` where a source has a tree, `names FILE` prints `well
-//! declared` where its names are so too, and `functions FILE` prints `typed` where its functions are. Each case begins with a line `== NAME` and its source goes to the next such line; the last
-//! line feed before that line, or before the end, belongs to no source. `tests/` makes the files and the answers.
+//! declared` where its names are so too, `functions FILE` prints `typed` where its functions are, and `check FILE` prints
+//! `accepted` where its processes are too. Each case begins with a line `== NAME` and its source goes to the next such line; the
+//! last line feed before that line, or before the end, belongs to no source. `tests/` makes the files and the answers.
 #![tactic(auto)]
 
 use anyhow::{Context, Result, bail};
-use campl_cli::{Refusal, SOURCE_LIMIT, judge, judge_names, tree_of};
+use campl_cli::{Refusal, SOURCE_LIMIT, judge, judge_functions, judge_names, tree_of};
 use campl_text::{FileShelf, Text, read_text};
 use std::alloc::Global;
 use std::env;
@@ -19,6 +20,7 @@ enum Phase {
     Grammar,
     Names,
     Functions,
+    Processes,
 }
 
 fn phase_of(word: &str) -> Result<Phase> {
@@ -26,7 +28,8 @@ fn phase_of(word: &str) -> Result<Phase> {
         "grammar" => Ok(Phase::Grammar),
         "names" => Ok(Phase::Names),
         "functions" => Ok(Phase::Functions),
-        _ => bail!("the phases are grammar, names and functions"),
+        "check" => Ok(Phase::Processes),
+        _ => bail!("the phases are grammar, names, functions and check"),
     }
 }
 
@@ -64,8 +67,12 @@ fn judge_source(
             Ok("well declared")
         }
         Phase::Functions => {
-            judge(alloc, program)?;
+            judge_functions(alloc, &judge_names(alloc, program)?)?;
             Ok("typed")
+        }
+        Phase::Processes => {
+            judge(alloc, program)?;
+            Ok("accepted")
         }
     }
 }

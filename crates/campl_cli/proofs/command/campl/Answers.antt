@@ -1,8 +1,8 @@
--- What ran is answered.
-use Rattle.campl_cli.proofs.TopCall.{answers_run}
+-- What is done is answered.
+use Rattle.campl_cli.proofs.TopCall.{answers_done}
 use Rattle.campl_cli.proofs.command.campl.Goals as goal
 
 pub returns-in-Ok : goal.returns-in-Ok
 returns-in-Ok g c =
-    let (p, accepted, done) = c.in-Ok.ensures in
-    answers_run _ _ _ _ _ p c.in-Ok.performance accepted done c.print.ensures
+    let (order, is, done) = c.in-Ok.ensures in
+    answers_done _ _ _ _ _ order c.in-Ok.performance is done c.print.ensures

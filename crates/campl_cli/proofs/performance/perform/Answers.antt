@@ -1,5 +1,5 @@
 -- The journal and the output are those of the prints.
-use Rattle.std.proofs.Common.{sym, subst, List}
+use Rattle.std.proofs.Common.{refl, sym, subst, List}
 use Rattle.std.specs.Prelude.{All, string_bytes, map, chars}
 use Rattle.campl_cli.specs.Form.{IsShort}
 use Rattle.campl_cli.proofs.TopCall.{All-from_map}
@@ -16,4 +16,4 @@ returns c =
     let weight = c.weight.ensures in
     let journal = c.in_ok-journal.ensures in
     let output = c.in_ok-output.ensures in
-    record { fine = c.requires; journal = cc (texts, journal); output = cc (texts, weight, output) }
+    record { fine = c.requires; journal = cc (texts, journal); output = cc (texts, weight, output); ended = refl }
