@@ -13,6 +13,7 @@
 #![tactic(auto)]
 
 mod agreement;
+mod code;
 mod heights;
 mod judged;
 mod operands;
@@ -21,4 +22,5 @@ mod rules;
 mod stack;
 mod ways;
 
+pub use code::Code;
 pub use rules::{CodeFault, first_fault};
