@@ -1,0 +1,4 @@
+pub mod Judged
+pub mod Given
+pub mod Rows
+pub mod Faults
