@@ -10,12 +10,15 @@ import grammar
 import grammar_cases
 import name_cases
 import names
+import process_cases
+import processes
 
 MOST_BYTES = 1_048_576
 PHASES = {
     "grammar": (grammar_cases.all_cases, grammar.answer),
     "names": (name_cases.all_cases, names.answer),
     "functions": (function_cases.all_cases, functions.answer),
+    "processes": (process_cases.all_cases, processes.answer),
 }
 
 
