@@ -21,7 +21,7 @@ pub enum LinFault {
     PlugUse(Place, Name),
     /// The link closes a cycle (E44).
     PlugCycle(Place, Name),
-    /// The part of this number, from 0, is apart (E45).
+    /// The part of this number, counted from 1, is apart (E45).
     PlugApart(Place, usize),
     /// The constructor has no row (E46).
     CaseMissing(Place, Name),
