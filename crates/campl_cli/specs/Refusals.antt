@@ -1,4 +1,4 @@
--- Why the command ended before its run: each refusal with its status, its line, and when it is due.
+-- Why the command ended before it did what was ordered: each refusal with its status, its line, and when it is due.
 use Rattle.std.specs.Prelude.{◌≡◌, ◌⊎◌, ℕ, ◌<◌, ◌==◌, Bool, true, false, List, [], ◌∷◌, ◌++◌, Option, Some, None, IfSome, codes, length, Err, Ok, ⊤}
 use Rattle.std.specs.Fmt.{decimal}
 use Rattle.campl_text.specs.Counts.{Rose}

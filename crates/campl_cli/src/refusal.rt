@@ -1,4 +1,4 @@
-//! Why a command ends before its run.
+//! Why a command ends before it does what is ordered.
 ghost use Rattle.std.specs.Prelude.{◌≡◌};
 ghost use Rattle.campl_cli.specs.Refusals.{status_of};
 ghost use Rattle.campl_cli.specs.Source.{refusal_of_text};
@@ -10,7 +10,7 @@ use thiserror::Error;
 /// The most bytes that a source has.
 pub const SOURCE_LIMIT: u64 = 1_048_576;
 
-/// Why a command ended before its run.
+/// Why a command ended before it did what was ordered.
 #[derive(Debug, Error)]
 pub enum Refusal {
     /// The words are no command.
@@ -22,10 +22,10 @@ pub enum Refusal {
     /// The source isn't UTF-8; its longest front that is has `at` bytes.
     #[error("source isn't UTF-8 at byte {at}")]
     NotUtf8 { at: u64 },
-    /// The source has no tokens, no layout or no tree, its names aren't well declared, or its functions aren't typed.
+    /// The source has a fault, of which this is the first: of its tokens, layout or grammar, its names, its functions or its processes.
     #[error("{0}")]
     Source(SourceFault),
-    /// The source has a tree whose names and functions have no fault, and isn't of the form that runs so far.
+    /// The source is accepted, and what is ordered isn't built for it yet; or the order isn't built and is about no source.
     #[error("E60 NotBuilt at 1:1")]
     NotBuilt,
     /// The source can't be read.

@@ -17,7 +17,7 @@ pub enum Ended {
 /// The answer of the command.
 #[derive(Drop)]
 pub struct Report {
-    /// The exit status: 0 where the run finished; 2 for a bad command line, 3 for a refused source, 5 for a failed read,
+    /// The exit status: 0 where the run finished or the source is accepted; 2 for a bad command line, 3 for a refused source, 5 for a failed read,
     /// 6 for a failed write, and 7 for want of memory.
     pub status: u8,
     /// How the run ended, and `None` where none came to its end.
