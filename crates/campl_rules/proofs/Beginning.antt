@@ -4,7 +4,7 @@ use Rattle.std.proofs.lemmas.Option.{slice_get-map}
 use Rattle.std.specs.Prelude.{slice_get, slice_set, option_map, eqb, if◌then◌else◌, ◌||◌}
 use Rattle.campl_code.specs.Heights.{Heights, first_heights, is_among}
 use Rattle.campl_code.specs.Instructions.{Instr}
-use Rattle.campl_rules.specs.Given.{set_all}
+use Rattle.campl_rules.specs.Found.{set_all}
 use Rattle.campl_rules.proofs.Items.{item-set, same-items}
 
 pub set-more : (xs ys : List ℕ) (h : Option (ℕ × Bool)) (heights : Heights) → set_all (xs ++ ys) h heights ≡ set_all ys h (set_all xs h heights)

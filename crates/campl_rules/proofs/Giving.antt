@@ -1,9 +1,11 @@
 -- What instructions hand to places, in turn.
 use Rattle.std.proofs.Common.{◌≡◌, refl, ℕ, suc, ◌+◌, Bool, true, false, List, [], ◌∷◌, ◌++◌, ap, sym, ◌∙◌, Option, Some, None}
 use Rattle.std.specs.Prelude.{slice_get, option_map, eqb, if◌then◌else◌, ◌&&◌, ◌||◌}
-use Rattle.campl_code.specs.Heights.{Heights, handed, handed_by, has_operands, height_behind, is_among, or_later}
+use Rattle.campl_code.specs.Heights.{Heights, handed_by, has_operands, height_behind, is_among, or_later}
 use Rattle.campl_code.specs.Instructions.{Instr, Code}
 use Rattle.campl_code.specs.Operands.{goes_behind, is_sound, targets_of, ways_from}
+use Rattle.campl_code.specs.Rules.{height_at}
+use Rattle.campl_rules.specs.Found.{handed_at, handed_there}
 use Rattle.campl_rules.specs.Given.{TakesLater, gives}
 
 -- what a place has, or else what comes to it
@@ -77,22 +79,16 @@ hands-nothing a code p block at x height e to =
 pub takes-nothing : (a : List (Option ℕ)) → TakesLater a (λ to. None) a
 takes-nothing a = later-nothing a (λ n. None) (λ n. refl)
 
--- all instructions
-pub all-step : (initial given new : List (Option ℕ)) (code : Code) (p : Bool) (block rest : List Instr) (heights later-heights : Heights) (at : ℕ) (x : Instr) (h : Option (ℕ × Bool)) (whole : ℕ → Option ℕ)
-    → ((to : ℕ) → later given (handed code p block at (x ∷ rest) (h ∷ later-heights)) to ≡ later initial whole to)
-    → TakesLater given (λ to. handed_by code p block at x to h) new → (to : ℕ) → later new (handed code p block (suc at) rest later-heights) to ≡ later initial whole to
-all-step initial given new code p block rest heights later-heights at x h whole i t to =
-    takes-then given new (λ n. handed_by code p block at x n h) (handed code p block (suc at) rest later-heights) (handed code p block at (x ∷ rest) (h ∷ later-heights)) t (λ n. refl) to ∙ i to
+-- places one by one
+pub in-step : (initial given new : List (Option ℕ)) (here rest whole : ℕ → Option ℕ) → ((to : ℕ) → later given (λ n. or_later (here n) (rest n)) to ≡ later initial whole to) → TakesLater given here new
+    → (to : ℕ) → later new rest to ≡ later initial whole to
+in-step initial given new here rest whole i t to = takes-then given new here rest (λ n. or_later (here n) (rest n)) t (λ n. refl) to ∙ i to
 
-pub all-end : (initial given : List (Option ℕ)) (rest : ℕ → Option ℕ) (whole : ℕ → Option ℕ) → ((to : ℕ) → rest to ≡ None) → ((to : ℕ) → later given rest to ≡ later initial whole to) → TakesLater initial whole given
-all-end initial given rest whole e i to = later-nothing given rest e to ∙ i to
+pub in-end : (initial given : List (Option ℕ)) (rest whole : ℕ → Option ℕ) → ((to : ℕ) → rest to ≡ None) → ((to : ℕ) → later given rest to ≡ later initial whole to) → TakesLater initial whole given
+in-end initial given rest whole e i to = later-nothing given rest e to ∙ i to
 
-pub handed-without : (code : Code) (p : Bool) (block : List Instr) (at : ℕ) (rest : List Instr) (heights : Heights) (to : ℕ) → heights ≡ [] → handed code p block at rest heights to ≡ None
-handed-without code p block at rest heights to e = ap (λ h. handed code p block at rest h to) e ∙ go rest
-  where
-    go : (xs : List Instr) → handed code p block at xs [] to ≡ None
-    go [] = refl
-    go (x ∷ xs) = refl
-
-pub handed-past : (code : Code) (p : Bool) (block : List Instr) (at : ℕ) (rest : List Instr) (heights : Heights) (to : ℕ) → rest ≡ [] → handed code p block at rest heights to ≡ None
-handed-past code p block at rest heights to e = ap (λ r. handed code p block at r heights to) e
+-- the instruction at a place
+pub at-place : (a b : List (Option ℕ)) (code : Code) (p : Bool) (block : List Instr) (heights : Heights) (at : ℕ) (x : Instr) (h : Option (ℕ × Bool)) → slice_get block at ≡ Some x → height_at heights at ≡ h
+    → TakesLater a (λ to. handed_by code p block at x to h) b → TakesLater a (handed_at code p block heights at) b
+at-place a b code p block heights at x h s e t to =
+    t to ∙ ap (λ o. later a (λ n. handed_there code p block at o n h) to) (sym s) ∙ ap (λ k. later a (λ n. handed_there code p block at (slice_get block at) n k) to) (sym e)
