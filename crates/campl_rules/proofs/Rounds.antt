@@ -1,11 +1,11 @@
 -- Rounds that give heights.
-use Rattle.std.proofs.Common.{◌≡◌, refl, ℕ, zero, suc, ◌+◌, ◌-◌, ◌++◌, ◌<◌, ◌≤◌, ◌≢◌, Bool, true, false, List, [], ◌∷◌, map, length, get_or, inl, inr, ◌⊎◌, ap, sym, subst, ◌∙◌, Option, Some, None, arith}
+use Rattle.std.proofs.Common.{◌≡◌, refl, ℕ, zero, suc, ◌+◌, ◌<◌, ◌≤◌, ◌≢◌, Bool, true, false, List, [], ◌∷◌, map, length, get_or, inl, inr, ◌⊎◌, ap, sym, subst, ◌∙◌, Option, Some, None, arith}
 use Rattle.std.proofs.lemmas.Bool.{eq-eqb, ne_eqb}
 use Rattle.std.proofs.lemmas.Bool.Decides.{eqb_tells}
 use Rattle.std.proofs.lemmas.List.Sorted.{Contains-permutation, IsNonDecreasingBy-from_sort}
 use Rattle.std.proofs.lemmas.Option.{slice_get-map, slice_get_past, slice_get_within}
 use Rattle.std.specs.List.{Contains}
-use Rattle.std.specs.List.Sorted.{IsNonDecreasing, IsPermutation, IsSorted}
+use Rattle.std.specs.List.Sorted.{IsPermutation, IsSorted}
 use Rattle.std.specs.Ordering.{nat_cmp}
 use Rattle.std.specs.Prelude.{slice_get, option_map, unwrap_or, eqb, if◌then◌else◌, ◌&&◌, ◌||◌}
 use Rattle.campl_code.specs.Heights.{Heights, given_height, handed, handed_by, height_behind, has_operands, is_among, next_heights, or_later, rounds}
@@ -14,6 +14,7 @@ use Rattle.campl_code.specs.Operands.{is_sound, ways_from}
 use Rattle.campl_code.specs.Rules.{height_at, or_none}
 use Rattle.campl_rules.specs.Found.{AreFound, Changed, Covers, Rising, first, handed_at, handed_in, handed_there, is_new, settles, taken_now, takes, ways_at, ways_in}
 use Rattle.campl_rules.specs.Given.{TakesLater, given_at}
+use Rattle.campl_rules.proofs.Changing.{among-both}
 use Rattle.campl_rules.proofs.Items.{same-items}
 
 -- The instructions at ascending places hand on what all do, where no other has a new height
@@ -95,8 +96,8 @@ all-in-order give (suc n) at fs r c p =
     ∙ ap (λ x. or_later x (in-order give (above at fs))) (if-there (is_among at fs) (give at) (c at here))
     ∙ ap (or_later (give at))
     (all-in-order give n (suc at) (above at fs) (rising-above at fs r)
-     (λ i h a. let lt : at < i = omega (arith, h) in let le : at ≤ i = omega (arith, h) in c i le (among-above at i fs lt ∙ a))
-     (λ i h. p i (let k : at + suc n ≤ i = omega (arith, h) in k)))
+    (λ i h a. let lt : at < i = omega (arith, h) in let le : at ≤ i = omega (arith, h) in c i le (among-above at i fs lt ∙ a))
+    (λ i h. p i (let k : at + suc n ≤ i = omega (arith, h) in k)))
 
 handed-first : (code : Code) (p : Bool) (block : List Instr) (give : ℕ → Option ℕ) (at : ℕ) (rest : List Instr) (heights : Heights) (to : ℕ)
     → ((k n : ℕ) → n ≡ at + k → give n ≡ handed_there code p block n (slice_get rest k) to (height_at heights k)) → first-of give at (length rest) ≡ handed code p block at rest heights to
@@ -161,14 +162,6 @@ by-way code p block at (Some x) to m (Some (height, true)) e =
     right-true (is_sound code p block at x && has_operands code x height) (is_among to (ways_from at x))
     (if-some (is_sound code p block at x && has_operands code x height && is_among to (ways_from at x)) (height_behind code x height) m e)
 by-way code p block at (Some x) to m (Some (height, false)) e = absurd cc
-
-among-both : (xs ys : List ℕ) (i : ℕ) → is_among i (xs ++ ys) ≡ is_among i xs || is_among i ys
-among-both [] ys i = refl
-among-both (x ∷ xs) ys i = ap (λ b. eqb i x || b) (among-both xs ys i) ∙ turns (eqb i x) (is_among i xs) (is_among i ys)
-  where
-    turns : (a b c : Bool) → a || (b || c) ≡ (a || b) || c
-    turns true b c = refl
-    turns false b c = refl
 
 by-ways : (code : Code) (p : Bool) (block : List Instr) (heights : Heights) (fs : List ℕ) (to m : ℕ) → handed_in code p block heights fs to ≡ Some m → is_among to (ways_in block fs) ≡ true
 by-ways code p block heights [] to m e = absurd cc
@@ -283,9 +276,9 @@ round-firsts code p block heights settled taken fs given new found t s k = same-
 rising-items : (lo : ℕ) (ns : List ℕ) → ((j d : ℕ) → j < length ns → lo ≤ get_or ns j d) → ((i j d : ℕ) → i ≤ j → j < length ns → get_or ns i d ≤ get_or ns j d) → Rising lo ns
 rising-items lo [] a h = tt
 rising-items lo (n ∷ ns) a h = (
-      a 0 0 (omega arith),
-      rising-items n ns (λ j d l. h 0 (suc j) d (omega arith) (omega (arith, l))) (λ i j d le l. h (suc i) (suc j) d (omega (arith, le)) (omega (arith, l))),
-    )
+  a 0 0 (omega arith),
+  rising-items n ns (λ j d l. h 0 (suc j) d (omega arith) (omega (arith, l))) (λ i j d le l. h (suc i) (suc j) d (omega (arith, le)) (omega (arith, l))),
+)
 
 pub sorted-rising : (ns : List ℕ) → IsSorted nat_cmp ns → Rising 0 ns
 sorted-rising ns s = rising-items 0 ns (λ j d l. omega arith) (IsNonDecreasingBy-from_sort (λ (x : ℕ). x) ns s)

@@ -1,5 +1,5 @@
 -- What a round gives to each place.
-use Rattle.std.specs.Prelude.{◌≡◌, ℕ, Bool, true, false, ◌&&◌, ◌||◌, List, [], ◌∷◌, Option, Some, None, if◌then◌else◌, slice_get, slice_set, option_map, unwrap_or, length, ◌<◌}
+use Rattle.std.specs.Prelude.{◌≡◌, ℕ, Bool, true, ◌&&◌, List, Option, Some, None, if◌then◌else◌, slice_get, option_map, unwrap_or, length, ◌<◌}
 use Rattle.campl_code.specs.Instructions.{Instr, Code}
 use Rattle.campl_code.specs.Heights.{Heights, is_among, or_later}
 use Rattle.campl_code.specs.Rules.{is_own_height, height_at, ways_agree}

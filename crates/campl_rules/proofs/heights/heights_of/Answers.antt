@@ -14,7 +14,7 @@ rounds-preserved c =
     let j = c.args.judged.now in
     let one-less : length j.block.now - c.rounds.counter ≡ suc (length j.block.now - (c.rounds.counter + 1)) = omega (arith, c.rounds-test.true) in (
       rounds-step (code_of j) j.in_process (block_of j) (length j.block.now - c.rounds.counter) (length j.block.now - (c.rounds.counter + 1)) c.rounds.heights.items c.next_round.new.heights.items one-less
-      c.in_ok-newest-2.ensures.next
-      ∙ c.rounds.invariant.0,
+          c.in_ok-newest-2.ensures.next
+          ∙ c.rounds.invariant.0,
       c.in_ok-newest-2.ensures.found,
     )

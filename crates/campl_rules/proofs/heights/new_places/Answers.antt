@@ -1,4 +1,4 @@
-use Rattle.std.proofs.Common.{◌<◌, length, arith}
+use Rattle.std.proofs.Common.{◌<◌, arith}
 use Rattle.campl_rules.proofs.Rounds.{covers-sorted, new-within, sorted-rising}
 use Rattle.campl_rules.proofs.heights.new_places.Goals as goal
 

@@ -1,6 +1,4 @@
-use Rattle.std.proofs.Common.{◌≡◌, ◌∙◌, ap, sym, subst}
-use Rattle.std.specs.Prelude.{option_map, slice_get}
-use Rattle.campl_code.specs.Heights.{or_later}
+use Rattle.std.proofs.Common.{sym, subst}
 use Rattle.campl_rules.specs.Found.{Changed, Covers, handed_in, takes, ways_in}
 use Rattle.campl_rules.specs.Given.{TakesLater}
 use Rattle.campl_rules.specs.Judged.{code_of, block_of}
@@ -32,10 +30,10 @@ returns-clause-found c =
     record {
       rising = sorted-rising c.sort.new.self.items c.in_ok-sort.ensures.sorted;
       covers =
-      covers-sorted c.take_all.new.next.items c.sort.new.self.items taken c.sort.ensures.permutation
-      (c.in_ok-take_all.ensures.covers (subst (λ l. Covers l settled) (sym c.new-next.ensures.items) (none-new old settled fs c.requires.found.covers c.settle_all.ensures)));
+          covers-sorted c.take_all.new.next.items c.sort.new.self.items taken c.sort.ensures.permutation
+          (c.in_ok-take_all.ensures.covers (subst (λ l. Covers l settled) (sym c.new-next.ensures.items) (none-new old settled fs c.requires.found.covers c.settle_all.ensures)));
       firsts =
-      round-firsts (code_of j) j.in_process (block_of j) old settled taken fs given new c.requires.found
-      (subst (λ h. TakesLater given (handed_in (code_of j) j.in_process (block_of j) h fs) new) c.as_slice.ensures.value c.in_ok-hand_all.ensures) c.settle_all.ensures
-      (subst (λ g. Changed settled (ways_in (block_of j) fs) (takes g) taken) c.as_slice-2.ensures.value c.in_ok-take_all.ensures.takes);
+          round-firsts (code_of j) j.in_process (block_of j) old settled taken fs given new c.requires.found
+          (subst (λ h. TakesLater given (handed_in (code_of j) j.in_process (block_of j) h fs) new) c.as_slice.ensures.value c.in_ok-hand_all.ensures) c.settle_all.ensures
+          (subst (λ g. Changed settled (ways_in (block_of j) fs) (takes g) taken) c.as_slice-2.ensures.value c.in_ok-take_all.ensures.takes);
     }

@@ -16,7 +16,7 @@ loop-place-preserved c =
     let next : suc at ≡ at + 1 = omega arith in
     let all : drop at places ≡ p ∷ drop (at + 1) places = drop-cons places at 0 c.loop-place-test.true ∙ ap (λ n. p ∷ drop n places) next in (
       each-step c.args.heights.now.items c.loop-place.heights.items c.take_from.new.heights.items (ways_in block places) (ways_in block (drop (at + 1) places)) (ways_at (slice_get block p) p) by
-      (takes-once c.args.given.now)
-      (λ i. ap (λ l. changed c.loop-place.heights.items (ways_in block l) by i) (sym all) ∙ c.loop-place.invariant.0 i) c.in_ok-take_from.ensures.takes,
+          (takes-once c.args.given.now)
+          (λ i. ap (λ l. changed c.loop-place.heights.items (ways_in block l) by i) (sym all) ∙ c.loop-place.invariant.0 i) c.in_ok-take_from.ensures.takes,
       λ a. c.in_ok-take_from.ensures.covers (c.loop-place.invariant.1 a),
     )
