@@ -1,15 +1,11 @@
 -- Where heights begin.
-use Rattle.std.proofs.Common.{◌≡◌, refl, ℕ, zero, suc, ◌+◌, Bool, true, false, List, [], ◌∷◌, ◌++◌, map, ap, sym, ◌∙◌, Option, Some, None, arith}
+use Rattle.std.proofs.Common.{◌≡◌, refl, ℕ, zero, suc, ◌+◌, Bool, true, false, List, [], ◌∷◌, map, ap, sym, ◌∙◌, Option, Some, None, arith}
 use Rattle.std.proofs.lemmas.Option.{slice_get-map}
 use Rattle.std.specs.Prelude.{slice_get, slice_set, option_map, eqb, if◌then◌else◌, ◌||◌}
 use Rattle.campl_code.specs.Heights.{Heights, first_heights, is_among}
 use Rattle.campl_code.specs.Instructions.{Instr}
-use Rattle.campl_rules.specs.Given.{set_all}
+use Rattle.campl_rules.specs.Found.{set_all}
 use Rattle.campl_rules.proofs.Items.{item-set, same-items}
-
-pub set-more : (xs ys : List ℕ) (h : Option (ℕ × Bool)) (heights : Heights) → set_all (xs ++ ys) h heights ≡ set_all ys h (set_all xs h heights)
-set-more [] ys h heights = refl
-set-more (x ∷ xs) ys h heights = set-more xs ys h (slice_set heights x h)
 
 item-set-all : (places : List ℕ) (h : Option (ℕ × Bool)) (heights : Heights) (i : ℕ) → slice_get (set_all places h heights) i ≡ option_map (λ x. if is_among i places then h else x) (slice_get heights i)
 item-set-all [] h heights i = go (slice_get heights i)

@@ -26,12 +26,6 @@ item-set (x ∷ xs) zero (suc j) v = rw (eqb-suc-zero j) (kept (slice_get xs j))
 item-set (x ∷ xs) (suc i) zero v = rw (eqb-zero-suc i) refl
 item-set (x ∷ xs) (suc i) (suc j) v = rw (eqb-suc-suc j i) (item-set xs i j v)
 
--- the item at a place, and those behind it
-pub drop-item : {A : Type 0} (xs : List A) (i : ℕ) (x : A) → slice_get xs i ≡ Some x → drop i xs ≡ x ∷ drop (suc i) xs
-drop-item [] i x e = absurd cc
-drop-item (y ∷ xs) zero x e = ap (λ z. z ∷ xs) (let f : y ≡ x = cc in f)
-drop-item (y ∷ xs) (suc i) x e = drop-item xs i x e
-
 pub drop-set : {A : Type 0} (xs : List A) (i : ℕ) (v : A) → i < length xs → drop i (slice_set xs i v) ≡ v ∷ drop (suc i) xs
 drop-set [] i v h = absurd (omega (arith, h))
 drop-set (x ∷ xs) zero v h = refl

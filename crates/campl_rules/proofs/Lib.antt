@@ -1,5 +1,6 @@
 mod Agreeing
 mod Beginning
+mod Changing
 mod Giving
 mod Items
 mod Numbered

@@ -1,5 +1,5 @@
 -- What a round gives to each place.
-use Rattle.std.specs.Prelude.{◌≡◌, ℕ, Bool, true, false, ◌&&◌, ◌||◌, List, [], ◌∷◌, Option, Some, None, if◌then◌else◌, slice_get, slice_set, option_map, unwrap_or, length, ◌<◌}
+use Rattle.std.specs.Prelude.{◌≡◌, ℕ, Bool, true, ◌&&◌, List, Option, Some, None, if◌then◌else◌, slice_get, option_map, unwrap_or, length, ◌<◌}
 use Rattle.campl_code.specs.Instructions.{Instr, Code}
 use Rattle.campl_code.specs.Heights.{Heights, is_among, or_later}
 use Rattle.campl_code.specs.Rules.{is_own_height, height_at, ways_agree}
@@ -15,20 +15,6 @@ gives places height to = if is_among to places then Some height else None
 -- each place has what it had, or else what comes now
 abbrev pub TakesLater : List (Option ℕ) → (ℕ → Option ℕ) → List (Option ℕ) → Type 0
 TakesLater old comes new = (to : ℕ) → slice_get new to ≡ option_map (λ g. or_later g (comes to)) (slice_get old to)
-
-abbrev pub is_new : Option (ℕ × Bool) → Bool
-is_new None = false
-is_new (Some p) = p.1
-
--- the last round gave a height
-abbrev pub has_new : Heights → Bool
-has_new [] = false
-has_new (h ∷ heights) = is_new h || has_new heights
-
--- the same at each of these places
-abbrev pub set_all : List ℕ → Option (ℕ × Bool) → Heights → Heights
-set_all [] h heights = heights
-set_all (to ∷ places) h heights = set_all places h (slice_set heights to h)
 
 -- each place agrees as it did, and with what comes now
 abbrev pub AgreesLater : List Bool → (ℕ → Bool) → List Bool → Type 0

@@ -1,45 +1,93 @@
 //! The height of the stack at each place of a block, found in rounds.
-ghost use Rattle.std.specs.Prelude.{◌≡◌, ◌+◌, true, [], ◌∷◌, None, Some, IfOk, OnOk, IfSome, length, map, slice_set};
+ghost use Rattle.std.specs.Prelude.{◌≡◌, ◌+◌, true, [], ◌∷◌, None, Some, IfOk, IsTrue, ◌↔◌, length, map, slice_set};
 ghost use Rattle.campl_code.specs.Heights as rule;
-ghost use Rattle.campl_code.specs.Heights.{all_children, handed, handed_by, next_heights, is_among};
-ghost use Rattle.campl_code.specs.Operands as operand;
+ghost use Rattle.campl_code.specs.Heights.{all_children, handed, next_heights};
 ghost use Rattle.campl_instructions.specs.View.{view_instr};
+ghost use Rattle.campl_rules.specs.Found.{AreFound, Covers, Rising, first, is_new, set_all};
 ghost use Rattle.campl_rules.specs.Judged.{code_of, block_of, IsJudged};
-ghost use Rattle.campl_rules.specs.Given.{TakesLater, given_at, gives, has_new, is_new, set_all};
 
+use crate::handing::hand_all;
 use crate::judged::Judged;
-use crate::stack::{has_operands, height_behind};
-use crate::ways::{children_of, goes_behind, is_sound, targets_of};
+use crate::taking::{settle_all, take_all};
+use crate::ways::children_of;
 use campl_instructions::Instr;
 use std::alloc::{AllocError, Global};
 
 /// The height at a place, where it has one, and whether the last round gave it.
 pub(crate) type Height = Option<(u64, bool)>;
 
-/// The height at each place of the block.
+/// The height at each place of the block. A round looks only at the instructions that got their heights in the last one.
 pub(crate) fn heights_of(alloc: Global, judged: &Judged<'_>) -> Result<Vec<Height>, AllocError>
     requires { IsJudged judged.now }
     ensures { IfOk result (λ heights. heights.items ≡ rule.heights_of (code_of judged.now) judged.now.in_process (block_of judged.now)) }
 {
     let mut heights = first_heights(alloc, judged.block)?;
+    let mut given = firsts(alloc, heights.as_slice())?;
+    let mut newest = new_places(alloc, heights.as_slice())?;
     'rounds: for _ in 0..judged.block.len() {
-        if !has_new(heights.as_slice()) {
+        if are_none(newest.as_slice()) {
             return Ok(heights);
         }
-        heights = next_round(alloc, judged, heights.as_slice())?;
+        newest = next_round(judged, newest.as_slice(), &mut heights, &mut given)?;
     }
     Ok(heights)
 }
 
-fn has_new(heights: &[Height]) -> bool
-    ensures { result ≡ has_new heights.now }
+fn are_none(places: &[usize]) -> bool
+    ensures { IsTrue result ↔ (length places.now ≡ 0) }
 {
-    for height in heights {
+    places.is_empty()
+}
+
+// A round: what the instructions with a new height hand on comes to the places that have none. The answer is where it came.
+fn next_round(
+    judged: &Judged<'_>,
+    newest: &[usize],
+    heights: &mut Vec<Height>,
+    given: &mut Vec<Option<u64>>,
+) -> Result<Vec<usize>, AllocError>
+    requires judged { IsJudged judged.now }
+    requires found { AreFound newest.now heights.old.items given.old.items }
+    ensures next { IfOk result (λ next. heights.new.items ≡ next_heights (handed (code_of judged.now) judged.now.in_process (block_of judged.now) 0 (block_of judged.now) heights.old.items) 0 heights.old.items) }
+    ensures found { IfOk result (λ next. AreFound next.items heights.new.items given.new.items) }
+{
+    hand_all(judged, newest, heights.as_slice(), given)?;
+    settle_all(newest, heights);
+    let mut next = Vec::new(*heights.allocator());
+    take_all(judged.block, newest, given.as_slice(), heights, &mut next)?;
+    next.sort()?;
+    Ok(next)
+}
+
+// The heights alone.
+fn firsts(alloc: Global, heights: &[Height]) -> Result<Vec<Option<u64>>, AllocError>
+    ensures { IfOk result (λ firsts. firsts.items ≡ map first heights.now) }
+{
+    heights.iter().map(|height| first(height)).collect(alloc)
+}
+
+fn first(height: &Height) -> Option<u64>
+    ensures { result ≡ first height.now }
+{
+    match height {
+        None => None,
+        Some((height, _)) => Some(*height),
+    }
+}
+
+// The places with a new height, in order.
+fn new_places(alloc: Global, heights: &[Height]) -> Result<Vec<usize>, AllocError>
+    ensures covers { IfOk result (λ places. Covers places.items heights.now) }
+    ensures rising { IfOk result (λ places. Rising 0 places.items) }
+{
+    let mut places = Vec::new(alloc);
+    for (at, height) in heights.iter().enumerate() {
         if is_new(height) {
-            return true;
+            places.push(at)?;
         }
     }
-    false
+    places.sort()?;
+    Ok(places)
 }
 
 fn is_new(height: &Height) -> bool
@@ -82,155 +130,5 @@ fn begin_at(heights: &mut Vec<Height>, to: usize)
 {
     if to < heights.len() {
         heights[to] = Some((0, true));
-    }
-}
-
-// A round: what instructions with a new height hand on comes to the places that have none.
-fn next_round(
-    alloc: Global,
-    judged: &Judged<'_>,
-    heights: &[Height],
-) -> Result<Vec<Height>, AllocError>
-    requires { IsJudged judged.now }
-    ensures { IfOk result (λ next. next.items ≡ next_heights (handed (code_of judged.now) judged.now.in_process (block_of judged.now) 0 (block_of judged.now) heights.now) 0 heights.now) }
-{
-    let mut given = nothing_given(alloc, heights)?;
-    hand_all(judged, heights, &mut given)?;
-    taken_heights(alloc, heights, given.as_slice())
-}
-
-fn nothing_given(alloc: Global, heights: &[Height]) -> Result<Vec<Option<u64>>, AllocError>
-    ensures { IfOk result (λ given. given.items ≡ map (λ h. None) heights.now) }
-{
-    heights.iter().map(|_| None).collect(alloc)
-}
-
-// Each place without a height takes what it is given; the others have theirs no longer from the last round.
-fn taken_heights(
-    alloc: Global,
-    heights: &[Height],
-    given: &[Option<u64>],
-) -> Result<Vec<Height>, AllocError>
-    ensures { IfOk result (λ next. next.items ≡ next_heights (given_at given.now) 0 heights.now) }
-{
-    let mut next = Vec::new(alloc);
-    for (at, height) in heights.iter().enumerate() {
-        next.push(taken(height, given_there(given, at)))?;
-    }
-    Ok(next)
-}
-
-fn given_there(given: &[Option<u64>], at: usize) -> Option<u64>
-    ensures { result ≡ given_at given.now at }
-{
-    match given.get(at) {
-        None => None,
-        Some(height) => *height,
-    }
-}
-
-fn taken(height: &Height, given: Option<u64>) -> Height
-    ensures { result ≡ rule.given_height height.now given }
-{
-    match (height, given) {
-        (Some((height, _)), _) => Some((*height, false)),
-        (None, Some(height)) => Some((height, true)),
-        (None, None) => None,
-    }
-}
-
-// What all instructions hand on, the lowest one first.
-fn hand_all(
-    judged: &Judged<'_>,
-    heights: &[Height],
-    given: &mut Vec<Option<u64>>,
-) -> Result<(), AllocError>
-    requires { IsJudged judged.now }
-    ensures { OnOk result (TakesLater given.old.items (handed (code_of judged.now) judged.now.in_process (block_of judged.now) 0 (block_of judged.now) heights.now) given.new.items) }
-{
-    for (at, x) in judged.block.iter().enumerate() {
-        match heights.get(at) {
-            None => return Ok(()),
-            Some(height) => hand_from(judged, at, x, height, given)?,
-        }
-    }
-    Ok(())
-}
-
-// What one instruction hands on in this round.
-fn hand_from(
-    judged: &Judged<'_>,
-    at: usize,
-    x: &Instr,
-    height: &Height,
-    given: &mut Vec<Option<u64>>,
-) -> Result<(), AllocError>
-    requires { IsJudged judged.now }
-    ensures { OnOk result (TakesLater given.old.items (λ to. handed_by (code_of judged.now) judged.now.in_process (block_of judged.now) at (view_instr x.now) to height.now) given.new.items) }
-{
-    match height {
-        None => Ok(()),
-        Some((height, is_new)) => {
-            if *is_new {
-                hand_on(judged, at, x, *height, given)
-            } else {
-                Ok(())
-            }
-        }
-    }
-}
-
-// What one instruction hands on at its height.
-fn hand_on(
-    judged: &Judged<'_>,
-    at: usize,
-    x: &Instr,
-    height: u64,
-    given: &mut Vec<Option<u64>>,
-) -> Result<(), AllocError>
-    requires { IsJudged judged.now }
-    ensures { OnOk result (TakesLater given.old.items (λ to. handed_by (code_of judged.now) judged.now.in_process (block_of judged.now) at (view_instr x.now) to (Some (height, true))) given.new.items) }
-{
-    if is_sound(judged, at, x) && has_operands(judged.code, x, height) {
-        let Some(behind) = height_behind(judged.code, x, height) else {
-            return Err(AllocError);
-        };
-        hand_ways(at, x, behind, given);
-    }
-    Ok(())
-}
-
-// The height comes to each place at which the instruction can go on.
-fn hand_ways(at: usize, x: &Instr, height: u64, given: &mut Vec<Option<u64>>)
-    ensures { TakesLater given.old.items (gives (operand.ways_from at (view_instr x.now)) height) given.new.items }
-{
-    if goes_behind(x) {
-        hand_behind(at, height, given);
-    }
-    hand_each(targets_of(x), height, given);
-}
-
-fn hand_behind(at: usize, height: u64, given: &mut Vec<Option<u64>>)
-    ensures { TakesLater given.old.items (gives ((at + 1) ∷ []) height) given.new.items }
-{
-    if at < given.len() {
-        hand(at + 1, height, given);
-    }
-}
-
-fn hand_each(places: &[u32], height: u64, given: &mut Vec<Option<u64>>)
-    ensures { TakesLater given.old.items (gives places.now height) given.new.items }
-{
-    for to in places {
-        hand(*to as usize, height, given);
-    }
-}
-
-// The height comes to a place, unless one came there before.
-fn hand(to: usize, height: u64, given: &mut Vec<Option<u64>>)
-    ensures { TakesLater given.old.items (gives (to ∷ []) height) given.new.items }
-{
-    if to < given.len() && given[to].is_none() {
-        given[to] = Some(height);
     }
 }

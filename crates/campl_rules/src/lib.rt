@@ -14,12 +14,14 @@
 
 mod agreement;
 mod code;
+mod handing;
 mod heights;
 mod judged;
 mod operands;
 mod rows;
 mod rules;
 mod stack;
+mod taking;
 mod ways;
 
 pub use code::Code;

@@ -1,5 +1,5 @@
 use Rattle.std.proofs.Common.{◌≡◌, true, Some, drop}
-use Rattle.campl_rules.specs.Given.{set_all}
+use Rattle.campl_rules.specs.Found.{set_all}
 use Rattle.campl_rules.proofs.heights.begin_all.Given as goal
 
 abbrev pub invariant-loop-to : goal.invariant-loop-to

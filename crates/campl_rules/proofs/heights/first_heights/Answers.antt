@@ -3,7 +3,7 @@ use Rattle.std.proofs.lemmas.List.{drop_all}
 use Rattle.std.specs.Prelude.{slice_set}
 use Rattle.campl_code.specs.Heights.{all_children}
 use Rattle.campl_instructions.specs.View.{view_instr}
-use Rattle.campl_rules.specs.Given.{set_all}
+use Rattle.campl_rules.specs.Found.{set_all}
 use Rattle.campl_rules.proofs.Beginning.{begun, start}
 use Rattle.campl_rules.proofs.heights.first_heights.Goals as goal
 

@@ -1,7 +1,7 @@
 use Rattle.std.proofs.Common.{◌≡◌, true, Some, map, drop}
 use Rattle.campl_code.specs.Heights.{all_children}
 use Rattle.campl_instructions.specs.View.{view_instr}
-use Rattle.campl_rules.specs.Given.{set_all}
+use Rattle.campl_rules.specs.Found.{set_all}
 use Rattle.campl_rules.proofs.heights.first_heights.Given as goal
 
 abbrev pub invariant-loop-x : goal.invariant-loop-x

@@ -1,7 +1,7 @@
 use Rattle.std.proofs.Common.{arith, length, ◌≤◌}
 use Rattle.std.proofs.lemmas.List.{drop_all}
 use Rattle.campl_rules.proofs.Giving.{each-end}
-use Rattle.campl_rules.proofs.heights.hand_each.Goals as goal
+use Rattle.campl_rules.proofs.handing.hand_each.Goals as goal
 
 pub returns : goal.returns
 returns c =

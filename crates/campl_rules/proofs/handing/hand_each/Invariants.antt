@@ -1,7 +1,7 @@
 use Rattle.std.proofs.Common.{◌≡◌, ℕ, drop}
 use Rattle.campl_rules.specs.Given.{gives}
 use Rattle.campl_rules.proofs.Giving.{later}
-use Rattle.campl_rules.proofs.heights.hand_each.Given as goal
+use Rattle.campl_rules.proofs.handing.hand_each.Given as goal
 
 abbrev pub invariant-loop-to : goal.invariant-loop-to
 invariant-loop-to l =
