@@ -1,0 +1,3 @@
+pub mod Listed
+pub mod Stays
+pub mod Frame
