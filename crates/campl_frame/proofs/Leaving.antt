@@ -43,6 +43,9 @@ module _ (who : Who) (kept : End → Bool) (place : End → Place) (e : End) whe
   pub stays-kept : kept e ≡ true → leaving who kept place e ≡ place e
   stays-kept t = elim sorts [ inl (k, j) ↦ k | inr (k, j, h) ↦ absurd (true≢false (sym t ∙ h)) ]
 
+  pub goes-unkept : place e ≡ At who → kept e ≡ false → leaving who kept place e ≡ Gone
+  goes-unkept i t = elim sorts [ inl (k, j) ↦ absurd (true≢false (sym (j i) ∙ t)) | inr (k, j, h) ↦ k ]
+
   -- what is somewhere now was there
   pub was-put : (a : Place) → leaving who kept place e ≡ a → a ≢ Gone → place e ≡ a
   was-put a i n = elim sorts [ inl (k, j) ↦ sym k ∙ i | inr (k, j, h) ↦ absurd (n (sym i ∙ k)) ]
