@@ -35,7 +35,7 @@ use Rattle.campl_meaning.specs.Bodies.{without_end}
 use Rattle.campl_meaning.specs.Wants.{born, child, newborn, onward, with_found, command, term_command}
 use Rattle.campl_meaning.specs.Reductions.{Configuration, act_of}
 use Rattle.campl_meaning.specs.Views.{view_in, view_of, Takes, TakesAll, taken_at}
-use Rattle.campl_meaning.specs.Apart.{Place, At, In, Gone, IsCarried, IsJoined, Holder, Pair, owes_pair, node_of, graph}
+use Rattle.campl_meaning.specs.Apart.{Place, At, In, Gone, IsCarried, IsJoined, IsNamed, Holder, Pair, owes_pair, node_of, graph}
 use Rattle.campl_meaning.specs.Lawful.{Channels, seen, IsTypedAt, IsPairOf, Agree, Lawful}
 use Rattle.campl_meaning.proofs.Finite.{finite-of, finite-kept}
 use Rattle.campl_meaning.proofs.Agreeing.{agree-turned}
@@ -43,11 +43,13 @@ use Rattle.campl_meaning.proofs.Pairs.{pair-or-none, carried-right, carried-owes
 use Rattle.campl_meaning.proofs.Holding.{held-end}
 use Rattle.campl_peel.proofs.Peeling.{none-or}
 use Rattle.campl_peel.proofs.Terms.{ends-with}
-use Rattle.campl_kept_births.proofs.Listed.{IsTidy, found-kept, found-still, not-kept, found-more, found-without, still-without, lists-first, lists-more, lists-later, tidy-those, tidy-more, tidy-without}
+use Rattle.campl_frame.proofs.Listed.{some-is, lists, lists-found, found-listed, IsTidy, found-kept, found-still, not-kept, found-more, found-without, still-without, lists-first, lists-more, lists-later, tidy-those, tidy-more, tidy-without}
 use Rattle.campl_kept_births.proofs.Bare.{IsForkAt, fork-at}
-use Rattle.campl_kept_births.proofs.Frame.{some-is, lists, lists-found, found-listed, agree-same, IsGoodPair, settled, Hands, at-other, at-own, at-kin, lawful-after}
+use Rattle.campl_frame.specs.Frame.{IsGoodPair}
+use Rattle.campl_frame.proofs.Stays.{agree-same}
+use Rattle.campl_kept_births.proofs.Hands.{settled, Hands, at-other, at-own, at-kin, lawful-after}
 use Rattle.campl_kept_births.proofs.Masks.{ends-apart, nodes-apart, same_node, masked, standing-some, standing-none, mask, unmask, at-holder, at-pair, node-at, node-in, node-gone, owes-last}
-use Rattle.campl_kept_births.proofs.Newborn.{born-differ, born-fresh, born-idle, not-born, own-place, no-child-yet, child-not, family, parent-there, child-there, others-there, new-agree}
+use Rattle.campl_kept_births.proofs.Newborn.{names-kept, born-differ, born-fresh, born-idle, not-born, own-place, no-child-yet, child-not, family, parent-there, child-there, others-there, new-agree}
 use Rattle.campl_kept_births.proofs.SplitStep.{held-of, held-without}
 use Rattle.campl_types.proofs.Bare.{bare-chan-twice}
 use Rattle.campl_types.proofs.Truth.{not-true}
@@ -649,15 +651,6 @@ module _ (source : Program) (c : Configuration) (l : Lawful source c) (p : Path)
   not-second e n m (inr (inl i)) = m i
   not-second e n m (inr (inr i)) = i
 
-  joined-kind : (e : End) → IsJoined d e → IsJoined c e ⊎ ((e.bearer ≡ p) × (e.step ≡ suc r.steps))
-  joined-kind e j = elim (which e) [
-    | inl (inl (inl i)) ↦ inr (ap (λ (q : End). q.bearer) i, ap (λ (q : End). q.step) i)
-    | inl (inl (inr i)) ↦ inr (ap (λ (q : End). q.bearer) i, ap (λ (q : End). q.step) i)
-    | inl (inr (inl i)) ↦ inr (ap (λ (q : End). q.bearer) i, ap (λ (q : End). q.step) i)
-    | inl (inr (inr i)) ↦ inr (ap (λ (q : End). q.bearer) i, ap (λ (q : End). q.step) i)
-    | inr o ↦ inl (j.0, sym (partner-old e o) ∙ j.1)
-  ]
-
   idle : (e : End) → d.partner e ≡ None → d.owed e ≡ []
   idle e i = elim (which e) [
     | inl o ↦ absurd (let j : IsJoined d e = partner-one e o in cc (i, j.1))
@@ -668,7 +661,6 @@ module _ (source : Program) (c : Configuration) (l : Lawful source c) (p : Path)
 
   hands : Hands source c d l p r r2 (Some r3) None channel2 remains
   hands = record {
-    there = there;
     here = parent-there c.nodes (Process p) (Runs r2) ((child p r, Some (Runs r3)) ∷ []);
     born = λ s i. let j : r3 ≡ s = cc i in subst (λ (q : Running). d.nodes (child p r) ≡ Some (Runs q)) j (child-there c.nodes (Process p) (child p r) (Runs r2) (Runs r3) (child-not p r));
     others = λ v s n i. others-there c.nodes (Process p) (child p r) (Runs r2) (Runs r3) s v n no-child i;
@@ -677,11 +669,9 @@ module _ (source : Program) (c : Configuration) (l : Lawful source c) (p : Path)
       | inr (inl j) ↦ inr (inl (r3, refl, j.0, j.1))
       | inr (inr j) ↦ inr (inr j)
     ];
-    steps = refl;
     paired = births move.channels c.partner l.apart.placed.paired
         (a1-a2, not-second a1 (ne a1 b1 a1-b1) (ne a1 b2 a1-b2), not-second a2 (ne a2 b1 a2-b1) (ne a2 b2 a2-b2), (b1-b2, (λ q. q), (λ q. q), tt)) fresh-all;
     wired = wired;
-    joined = joined-kind;
     idle = idle;
     names = tidy-mine.names;
     once = tidy-mine.once;
@@ -814,8 +804,8 @@ module _ (source : Program) (c : Configuration) (l : Lawful source c) (p : Path)
   forest = unmask d place2 (fork-forest same_end ends-apart same_node nodes-apart (masked c l.place) (masked d place2)
       (Holder (Process p)) (Holder (child p r)) (Pair end) a1 a2 b1 b2 fork (mask c l.place l.apart.forest))
 
-  pub fork-lawful : Lawful source d
-  fork-lawful = lawful-after source c d l p r r2 (Some r3) None channel2 remains hands forest
+  pub fork-lawful : IsNamed d → Lawful source d
+  fork-lawful named = lawful-after source c d l p r r2 (Some r3) None channel2 remains hands named forest
 
 -- the step of a fork keeps what is lawful
 pub fork-kept : (source : Program) (c a : Configuration) (p : Path) (r : Running) (i : ℕ) (at : Spot) (x y : Ident) (one : Body) (z : Ident) (two : Body)
@@ -840,5 +830,6 @@ fork-kept source c a p r i at x y one z two l there is e =
       next = Some (onward r (Doing one) r.variables ((y.name, born p r 1 First) ∷ those (λ n. is_free n one) (without_end x.name r.ends)));
     })) in
     let e2 : performs c (Process p) (does end).act ≡ Some a = subst (λ q. performs c (Process p) (with_found k.Fork q does).act ≡ Some a) f e1 in
-    subst (Lawful source) (some-is _ _ e2)
+    subst (λ q. IsNamed q → Lawful source q) (some-is _ _ e2)
     (fork-lawful source c l p r there x.name y.name z.name one two (λ n. is_free n one) end j.1.0 s u first second f j.1.1 on forks new good.1 well well_too)
+    (names-kept source c a p r i l there e)

@@ -5,25 +5,40 @@ use Rattle.campl_tree.specs.declared.service.Side.TheVariants.{Input, Output}
 use Rattle.campl_tree.specs.Side.{opposite}
 use Rattle.campl_tree.specs.Plain.ChanType.{ChanType}
 use Rattle.campl_tree.specs.Plain.Decl.{Program}
-use Rattle.campl_machine.specs.Names.{Path, Half, First, Second, End, Who, Process, same_end, same_who}
-use Rattle.campl_machine.specs.Machine.{update, both_ways}
-use Rattle.campl_machine.proofs.Same.{same_end-is, same_who-is, same_who-refl}
+use Rattle.campl_machine.specs.Names.{Birth, Path, Half, First, Second, End, Who, Process, same_end, same_who}
+use Rattle.campl_machine.specs.Machine.{update, both_ways, performs}
+use Rattle.campl_machine.proofs.Same.{same_path-refl, same_end-is, same_who-is, same_who-refl}
 use Rattle.campl_machine.proofs.Updates.{split}
-use Rattle.campl_types.specs.World.{World}
+use Rattle.campl_machine.proofs.Performs.{does_of}
+use Rattle.campl_types.specs.World.{World, world_of}
 use Rattle.campl_types.specs.Names.{Name, found}
 use Rattle.campl_types.specs.Held.{On}
 use Rattle.campl_types.specs.SameType.{bare_chan}
 use Rattle.campl_types.specs.Views.{turned}
 use Rattle.campl_types.proofs.Turned.{view-turned}
 use Rattle.campl_meaning.proofs.Independent.{number-of-child}
+use Rattle.campl_meaning.proofs.Named.{named-kept}
 use Rattle.campl_meaning.specs.States.{Running, State, Runs}
 use Rattle.campl_meaning.specs.Wants.{born, child, half_on}
-use Rattle.campl_meaning.specs.Reductions.{Configuration}
+use Rattle.campl_meaning.specs.Reductions.{Configuration, act_of}
 use Rattle.campl_meaning.specs.Views.{view_in, TakesAll}
-use Rattle.campl_meaning.specs.Apart.{At, IsJoined}
+use Rattle.campl_meaning.specs.Apart.{At, IsJoined, IsAtMost, IsNamed, number_in_end}
 use Rattle.campl_meaning.specs.Lawful.{Channels, seen, Agree, Lawful}
 use Rattle.campl_peel.proofs.Peeling.{none-or}
-use Rattle.campl_kept_births.proofs.Naming.{longer, some-at-most, in-end-own}
+
+-- Names
+
+-- a child's path isn't its parent's
+longer : (p : Path) (b : Birth) → p ++ (b ∷ []) ≢ p
+longer [] b i = cc i
+longer (a ∷ p) b i = longer p b (cc i)
+
+at-most : (o : Option ℕ) (k n : ℕ) → o ≡ Some k → IsAtMost o n → k ≤ n
+at-most o k n e h = subst (λ z. IsAtMost z n) e h
+
+-- the number in the path and step of an end that p bears
+own-number : (p : Path) (e : End) → e.bearer ≡ p → number_in_end p e ≡ Some e.step
+own-number p e b = rw (b, same_path-refl p) refl
 
 -- Halves
 
@@ -57,7 +72,7 @@ module _ (source : Program) (c : Configuration) (l : Lawful source c) (p : Path)
   fresh e b s = elim (none-or (c.partner e)) [
     | inl n ↦ n
     | inr j ↦
-        let m : e.step ≤ r.steps = some-at-most _ _ r.steps (in-end-own p e b) (l.apart.named.channels p r e there j) in
+        let m : e.step ≤ r.steps = at-most _ _ r.steps (own-number p e b) (l.apart.named.channels p r e there j) in
         absurd (omega (arith, s))
   ]
 
@@ -78,7 +93,7 @@ module _ (source : Program) (c : Configuration) (l : Lawful source c) (p : Path)
   -- nor is there a child of that name
   pub no-child-yet : (s : State) → c.nodes (child p r) ≡ Some s → ⊥
   no-child-yet s is =
-      let m : suc r.steps ≤ r.steps = some-at-most _ _ r.steps (number-of-child p (record { step = suc r.steps; place = 1 })) (l.apart.named.paths p (p ++ (record { step = suc r.steps; place = 1 } ∷ [])) r s there is) in
+      let m : suc r.steps ≤ r.steps = at-most _ _ r.steps (number-of-child p (record { step = suc r.steps; place = 1 })) (l.apart.named.paths p (p ++ (record { step = suc r.steps; place = 1 } ∷ [])) r s there is) in
       omega arith
 
 pub child-not : (p : Path) (r : Running) → child p r ≢ Process p
@@ -121,3 +136,10 @@ new-agree w d channel2 e f s t ce cf oe of = record {
   mine = subst (λ o. TakesAll w (seen channel2 e) o (seen channel2 e)) (sym of) refl;
   yours = subst (λ o. TakesAll w (seen channel2 f) o (turned (seen channel2 e))) (sym oe) (ap view_in cf ∙ (view-turned s (bare_chan t) ∙ ap (λ z. turned (view_in z)) (sym ce)));
 }
+
+-- Names stay new
+
+pub names-kept : (source : Program) (c a : Configuration) (p : Path) (r : Running) (i : ℕ) → Lawful source c → c.nodes (Process p) ≡ Some (Runs r)
+    → performs c (Process p) (act_of (world_of source) (Process p) (Runs r) i) ≡ Some a → IsNamed a
+names-kept source c a p r i l there e =
+    named-kept (world_of source) c a (Process p) (Runs r) i l.apart.named l.apart.placed.paired there (does_of c (Process p) (act_of (world_of source) (Process p) (Runs r) i) a e)

@@ -24,17 +24,18 @@ use Rattle.campl_meaning.specs.States.{Command, Message, Running, State, Runs}
 use Rattle.campl_meaning.specs.Wants.{born, child, half_on, peels, term_command}
 use Rattle.campl_meaning.specs.Reductions.{Configuration, act_of}
 use Rattle.campl_meaning.specs.Views.{view_in}
-use Rattle.campl_meaning.specs.Apart.{Place, At, IsJoined, Holder, node_of, graph}
+use Rattle.campl_meaning.specs.Apart.{Place, At, IsJoined, IsNamed, Holder, node_of, graph}
 use Rattle.campl_meaning.specs.Lawful.{Channels, IsTypedAt, Agree, Lawful}
 use Rattle.campl_peel.proofs.Terms.{term-peels, ends-with}
 use Rattle.campl_types.proofs.Truth.{not-true}
-use Rattle.campl_kept_births.proofs.Listed.{IsTidy, found-kept, found-still, not-kept, found-more, lists-first, lists-more, lists-later, tidy-those, tidy-more}
+use Rattle.campl_frame.proofs.Listed.{some-is, lists, lists-found, found-listed, IsTidy, found-kept, found-still, not-kept, found-more, lists-first, lists-more, lists-later, tidy-those, tidy-more}
 use Rattle.campl_meaning.proofs.Finite.{finite-of, finite-kept}
 use Rattle.campl_meaning.proofs.Agreeing.{agree-turned}
 use Rattle.campl_peel.proofs.Peeling.{none-or}
-use Rattle.campl_kept_births.proofs.Frame.{some-is, lists, lists-found, found-listed, same-held, agree-same, settled, Hands, at-other, at-own, at-kin, lawful-after}
+use Rattle.campl_frame.proofs.Stays.{same-held, agree-same}
+use Rattle.campl_kept_births.proofs.Hands.{settled, Hands, at-other, at-own, at-kin, lawful-after}
 use Rattle.campl_kept_births.proofs.Masks.{ends-apart, masked, standing-some, standing-none, mask, unmask, at-holder, node-at}
-use Rattle.campl_kept_births.proofs.Newborn.{halves-differ, born-differ, wire, born-fresh, born-idle, not-born, own-place, no-child-yet, child-not, family, parent-there, child-there, others-there, new-agree}
+use Rattle.campl_kept_births.proofs.Newborn.{names-kept, halves-differ, born-differ, wire, born-fresh, born-idle, not-born, own-place, no-child-yet, child-not, family, parent-there, child-there, others-there, new-agree}
 
 module _ (source : Program) (c : Configuration) (l : Lawful source c) (p : Path) (r : Running) (there : c.nodes (Process p) ≡ Some (Runs r)) (q : Peel)
     (k : TermPeels (world_of source) (l.typed p r there).vars (held_ends l.channel r.ends) r.term q) where
@@ -282,7 +283,6 @@ module _ (source : Program) (c : Configuration) (l : Lawful source c) (p : Path)
 
   hands : Hands source c d l p r r2 (Some r3) None channel2 l.place
   hands = record {
-    there = there;
     here = parent-there c.nodes (Process p) (Runs r2) ((child p r, Some (Runs r3)) ∷ []);
     born = λ s i. let j : r3 ≡ s = cc i in subst (λ (z : Running). d.nodes (child p r) ≡ Some (Runs z)) j (child-there c.nodes (Process p) (child p r) (Runs r2) (Runs r3) child-other);
     others = λ v s n i. others-there c.nodes (Process p) (child p r) (Runs r2) (Runs r3) s v n no-child i;
@@ -291,14 +291,8 @@ module _ (source : Program) (c : Configuration) (l : Lawful source c) (p : Path)
       | inr (inl a) ↦ inr (inl (r3, refl, a.0, a.1))
       | inr (inr a) ↦ inr (inr a)
     ];
-    steps = refl;
     paired = births move.channels c.partner l.apart.placed.paired (born-differ p r 1 1 First Second (inr (λ z. cc z)), (λ z. z), (λ z. z), tt) fresh-both;
     wired = wired;
-    joined = λ e j. elim (which e) [
-      | inl i ↦ inr (ap (λ (z : End). z.bearer) i, ap (λ (z : End). z.step) i)
-      | inr (inl i) ↦ inr (ap (λ (z : End). z.bearer) i, ap (λ (z : End). z.step) i)
-      | inr (inr (n, m)) ↦ inl (j.0, sym (partner-old e n m) ∙ j.1)
-    ];
     idle = λ e i. elim (which e) [
       | inl j ↦ absurd (let no : Some mine ≡ None = sym partner-theirs ∙ subst (λ z. d.partner z ≡ None) j i in cc no)
       | inr (inl j) ↦ absurd (let no : Some theirs ≡ None = sym partner-mine ∙ subst (λ z. d.partner z ≡ None) j i in cc no)
@@ -399,8 +393,8 @@ module _ (source : Program) (c : Configuration) (l : Lawful source c) (p : Path)
   forest : NoCycle (graph d place2)
   forest = unmask d place2 (peel-forest same_end ends-apart (masked c l.place) (masked d place2) (Holder (Process p)) (Holder (child p r)) mine theirs peel (mask c l.place l.apart.forest))
 
-  pub peel-lawful : Lawful source d
-  peel-lawful = lawful-after source c d l p r r2 (Some r3) None channel2 l.place hands forest
+  pub peel-lawful : IsNamed d → Lawful source d
+  peel-lawful named = lawful-after source c d l p r r2 (Some r3) None channel2 l.place hands named forest
 
 -- The step of a plug
 
@@ -424,4 +418,4 @@ peel-kept source c a p r i l there is e =
     let (q, k) = term-peels (world_of source) t.vars (held_ends l.channel r.ends) r.term t.term is in
     let act : term_command (world_of source) p r i r.term ≡ peels p r (Some q) = plug-peels (world_of source) p r i r.term is ∙ ap (peels p r) k.peels in
     let f : performs c (Process p) (peels p r (Some q)).act ≡ Some a = subst (λ (z : Command). performs c (Process p) z.act ≡ Some a) act e in
-    subst (Lawful source) (some-is _ _ f) (peel-lawful source c l p r there q k)
+    subst (λ z. IsNamed z → Lawful source z) (some-is _ _ f) (peel-lawful source c l p r there q k) (names-kept source c a p r i l there e)

@@ -35,17 +35,18 @@ use Rattle.campl_meaning.specs.Bodies.{without_end}
 use Rattle.campl_meaning.specs.Wants.{onward, on_ends, with_found, command, term_command}
 use Rattle.campl_meaning.specs.Reductions.{Configuration, act_of}
 use Rattle.campl_meaning.specs.Views.{view_in, view_of, TakesAll, taken_at}
-use Rattle.campl_meaning.specs.Apart.{Place, At, In, Gone, IsCarried, IsJoined, Holder, Pair, owes_pair, node_of, graph}
+use Rattle.campl_meaning.specs.Apart.{Place, At, In, Gone, IsCarried, IsJoined, IsNamed, Holder, Pair, owes_pair, node_of, graph}
 use Rattle.campl_meaning.specs.Lawful.{Channels, seen, IsTypedAt, IsPairOf, Agree, Lawful}
 use Rattle.campl_meaning.proofs.Agreeing.{agree-turned}
 use Rattle.campl_meaning.proofs.Pairs.{pair-or-none}
 use Rattle.campl_meaning.proofs.Holding.{held-end}
 use Rattle.campl_peel.proofs.Peeling.{none-or}
-use Rattle.campl_kept_births.proofs.Listed.{IsTidy, found-more, found-without, still-without, lists-first, lists-more, lists-later, tidy-more, tidy-without}
+use Rattle.campl_frame.proofs.Listed.{some-is, lists, lists-found, found-listed, IsTidy, found-more, found-without, still-without, lists-first, lists-more, lists-later, tidy-more, tidy-without}
 use Rattle.campl_kept_births.proofs.Bare.{IsSplitAt, split-at}
-use Rattle.campl_kept_births.proofs.Frame.{some-is, lists, lists-found, found-listed, agree-same, carries, settled, Hands, at-other, at-own, lawful-after}
+use Rattle.campl_frame.proofs.Stays.{agree-same, carries}
+use Rattle.campl_kept_births.proofs.Hands.{settled, Hands, at-other, at-own, lawful-after}
 use Rattle.campl_kept_births.proofs.Masks.{ends-apart, masked, standing-some, standing-none, mask, unmask, node-at, node-in, node-gone, node-nowhere}
-use Rattle.campl_kept_births.proofs.Newborn.{own-place, parent-there}
+use Rattle.campl_kept_births.proofs.Newborn.{names-kept, own-place, parent-there}
 use Rattle.campl_types.proofs.Bare.{bare-chan-twice}
 
 -- A node alone
@@ -381,15 +382,12 @@ module _ (source : Program) (c : Configuration) (l : Lawful source c) (p : Path)
 
   hands : Hands source c d l p r r2 None (Some other) channel2 remains
   hands = record {
-    there = there;
     here = parent-there c.nodes (Process p) (Runs r2) [];
     born = λ s i. absurd (cc i);
     others = λ h s n i. beside c.nodes (Process p) (Runs r2) h s n i;
     whose = λ h s i. elim (alone c.nodes (Process p) (Runs r2) h s i) [ inl j ↦ inl j | inr j ↦ inr (inr j) ];
-    steps = refl;
     paired = l.apart.placed.paired;
     wired = λ e f i. i;
-    joined = λ e j. inl j;
     idle = λ e i. elim (same-end other e) [
       | inl j ↦ subst (λ q. d.owed q ≡ []) j owed-other
       | inr n ↦ owed-old e n ∙ l.apart.placed.idle e i
@@ -529,8 +527,8 @@ module _ (source : Program) (c : Configuration) (l : Lawful source c) (p : Path)
   forest : NoCycle (graph d place2)
   forest = unmask d place2 (receipt-forest same_end ends-apart (masked c l.place) (masked d place2) (Holder (Process p)) (Pair other) end other receipt (mask c l.place l.apart.forest))
 
-  pub split-lawful : Lawful source d
-  split-lawful = lawful-after source c d l p r r2 None (Some other) channel2 remains hands forest
+  pub split-lawful : IsNamed d → Lawful source d
+  split-lawful named = lawful-after source c d l p r r2 None (Some other) channel2 remains hands named forest
 
 -- The step of a split
 
@@ -561,5 +559,5 @@ split-kept source c a p r i at x y z rest l there is e =
     let last : ms ≡ [] = l.pairs.last other g h [] ms owes2 in
     let owes3 : c.owed other ≡ EndPair g h ∷ [] = owes2 ∙ ap (λ (q : List Message). EndPair g h ∷ q) last in
     let state_is : state ≡ onward r (Doing rest) r.variables ((z.name, h) ∷ (y.name, g) ∷ without_end x.name r.ends) = sym (some-is _ _ goes) in
-    subst (Lawful source) (sym (same ∙ ap (looked c (Process p) true other) state_is))
-    (split-lawful source c l p r there x.name y.name z.name rest end other g h s u first second f joined owes3 on splits new good.1 well)
+    subst (λ q. IsNamed q → Lawful source q) (sym (same ∙ ap (looked c (Process p) true other) state_is))
+    (split-lawful source c l p r there x.name y.name z.name rest end other g h s u first second f joined owes3 on splits new good.1 well) (names-kept source c a p r i l there e)

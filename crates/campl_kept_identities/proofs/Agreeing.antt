@@ -13,14 +13,6 @@ use Rattle.campl_kept_identities.proofs.Takes.{one-side-takes, takes-both}
 use Rattle.campl_kept_identities.proofs.Pairs.{not-empty}
 
 module _ (w : World) (channel : Channels) where
-  -- part 3 speaks of what the two owe alone
-  pub agree-kept : (c d : Configuration) (e f : End) → d.owed e ≡ c.owed e → d.owed f ≡ c.owed f → Agree w c channel e f → Agree w d channel e f
-  agree-kept c d e f oe of a = record {
-    left = a.left;
-    mine = subst (λ (ms : List Message). TakesAll w (seen channel e) ms a.left) (sym of) a.mine;
-    yours = subst (λ (ms : List Message). TakesAll w (seen channel f) ms (turned a.left)) (sym oe) a.yours;
-  }
-
   -- where y2 owes nothing, y stands at its own view, so y2 comes to the view of x
   pub through : (c : Configuration) (x y y2 : End) → Agree w c channel y y2 → c.owed y2 ≡ [] → seen channel x ≡ turned (seen channel y) → TakesAll w (seen channel y2) (c.owed y) (seen channel x)
   through c x y y2 a none is =

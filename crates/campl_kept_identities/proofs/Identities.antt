@@ -1,13 +1,12 @@
--- In a lawful configuration an identity may happen, and keeps the configuration lawful.
-use Rattle.std.proofs.Common.{◌≡◌, ◌≢◌, ℕ, Bool, [], inl, inr, refl, sym, ap, subst, ◌∙◌, Option, Some, None, true≢false}
+-- An identity keeps a lawful configuration lawful.
+use Rattle.std.proofs.Common.{◌≡◌, ℕ, Bool, [], inl, inr, refl, sym, ap, subst, ◌∙◌, Option, Some, None, true≢false}
 use Rattle.campl_tree.specs.declared.place.Place.{Place}
 use Rattle.campl_tree.specs.declared.place.Ident.{Ident}
 use Rattle.campl_tree.specs.Plain.Process as b
 use Rattle.campl_tree.specs.Plain.Decl.{Program}
 use Rattle.campl_machine.specs.Names.{Path, End, Process}
-use Rattle.campl_machine.specs.Machine.{Act, Links, linked, Does, performs}
+use Rattle.campl_machine.specs.Machine.{Act, Links, linked, Does}
 use Rattle.campl_machine.specs.Graph.{Leads}
-use Rattle.campl_machine.proofs.Performs.{of_does}
 use Rattle.campl_types.specs.Names.{Name, same_name, found}
 use Rattle.campl_types.specs.World.{World, world_of}
 use Rattle.campl_types.specs.Held.{Channel, On, Held}
@@ -22,8 +21,7 @@ use Rattle.campl_meaning.specs.Apart.{Place as PlaceOf, At, IsJoined, Holder, gr
 use Rattle.campl_meaning.specs.Views.{view_in}
 use Rattle.campl_meaning.specs.Lawful.{Channels, IsTypedAt, Lawful}
 use Rattle.campl_meaning.specs.Kept.{Goes}
-use Rattle.campl_meaning.specs.Ends.{NeverActs, IsBrokenAt}
-use Rattle.campl_meaning.proofs.Steps.{does-of-goes, goes-of}
+use Rattle.campl_meaning.proofs.Steps.{does-of-goes}
 use Rattle.campl_meaning.proofs.Holding.{held-end}
 use Rattle.campl_kept_identities.specs.Identities.{IsIdentityAt}
 use Rattle.campl_kept_identities.proofs.Takes.{joined-views}
@@ -116,33 +114,6 @@ module _ (source : Program) (c : Configuration) (l : Lawful source c) (p : Path)
   links : (i : ℕ) (e f : End) → found x r.ends ≡ Some e → found y.name r.ends ≡ Some f → act_of w (Process p) (Runs r) i ≡ Links e f
   links i e f fx fy = ap (λ t. (term_command w p r i t).act) k.term ∙ joins w p r i at x negated y e f fx fy
 
-  -- an identity is never of an end with itself or with its partner
-  pub two-channels : (e f : End) → found x r.ends ≡ Some e → found y.name r.ends ≡ Some f → (e ≢ f) × (c.partner e ≢ Some f)
-  two-channels e f fe ff =
-      let (a, b, a2, b2, h) = has-ends in
-      let ea : e ≡ a = cc (fe, h.first) in
-      let fb : f ≡ b = cc (ff, h.second) in
-      ((λ i. h.identity.two_ends (sym ea ∙ (i ∙ fb))), (λ i. h.identity.two_channels (cc (h.identity.partner_x, i, ea, fb))))
-
-  -- so it isn't broken
-  pub not-broken : IsBrokenAt w c p → ⊥
-  not-broken (s, is, never) =
-      let (e, f, e2, f2, h) = has-ends in
-      let same : s ≡ Runs r = cc (is, k.there) in
-      let act : act_of w (Process p) s 0 ≡ Links e f = ap (λ (z : State). act_of w (Process p) z 0) same ∙ links 0 e f h.first h.second in
-      let none : performs c (Process p) (Links e f) ≡ None = subst (λ (a : Act State Message). NeverActs c (Process p) a) act never in
-      let some : performs c (Process p) (Links e f) ≡ Some (linked c (Process p) e f e2 f2) =
-      of_does c (Process p) (Links e f) (linked c (Process p) e f e2 f2) (e2, f2, h.identity.partner_x, h.identity.partner_y, h.identity.two_ends, h.identity.two_channels, refl) in
-      absurd (cc (none, some))
-
-  -- and may happen
-  pub may-link : (d : Configuration) × Goes w c (Process p) d
-  may-link =
-      let (e, f, e2, f2, h) = has-ends in
-      let done : Configuration = linked c (Process p) e f e2 f2 in
-      let step : Does c (Process p) (Links e f) done = (e2, f2, h.identity.partner_x, h.identity.partner_y, h.identity.two_ends, h.identity.two_channels, refl) in
-      (done, goes-of w c done (Process p) (Runs r) 0 k.there (subst (λ (a : Act State Message). Does c (Process p) a done) (sym (links 0 e f h.first h.second)) step))
-
   does-kept : (d : Configuration) (i : ℕ) → Does c (Process p) (act_of w (Process p) (Runs r) i) d → Lawful source d
   does-kept d i g =
       let (e, f, e2, f2, h) = has-ends in
@@ -155,7 +126,7 @@ module _ (source : Program) (c : Configuration) (l : Lawful source c) (p : Path)
       let same : linked c (Process p) e f e2 f2 ≡ linked c (Process p) e f a2 b2 = λ j. linked c (Process p) e f (ea j) (fb j) in
       subst (Lawful source) (same ∙ sym is) done
 
-  -- and what it leads to is lawful
+  -- what it leads to is lawful
   pub link-kept : (d : Configuration) → Goes w c (Process p) d → Lawful source d
   link-kept d g =
       let (i, e) = does-of-goes w c d (Process p) (Runs r) k.there g in

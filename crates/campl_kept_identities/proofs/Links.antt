@@ -1,29 +1,28 @@
 -- An identity keeps a configuration lawful.
-use Rattle.std.proofs.Common.{◌≡◌, ◌≢◌, ℕ, Bool, false, List, [], ◌∷◌, ◌++◌, ◌⊎◌, inl, inr, refl, sym, ap, subst, ◌∙◌, Some, None, if◌then◌else◌}
-use Rattle.campl_tree.specs.declared.service.Side.{Side}
-use Rattle.campl_tree.specs.Plain.ChanType.{TopBot}
+use Rattle.std.proofs.Common.{◌≡◌, ◌≢◌, Bool, false, List, [], ◌∷◌, ◌++◌, ◌⊎◌, inl, inr, refl, sym, ap, subst, ◌∙◌, Some, None, if◌then◌else◌}
 use Rattle.campl_tree.specs.Plain.Decl.{Program}
-use Rattle.campl_machine.specs.Names.{TellsApart, Path, End, Who, Process, Service, same_end, same_who}
+use Rattle.campl_machine.specs.Names.{TellsApart, End, Who, Process, same_end}
 use Rattle.campl_machine.specs.Graph.{Graph, NoCycle}
-use Rattle.campl_machine.proofs.Same.{same_end-is, same_end-refl, same_who-is}
-use Rattle.campl_machine.proofs.Updates.{split}
+use Rattle.campl_machine.proofs.Same.{same_end-is, same_end-refl}
 use Rattle.campl_machine.proofs.Ends.{Off}
 use Rattle.campl_machine.proofs.IdentityForest.{identity-forest}
 use Rattle.campl_machine.proofs.Shapes.{gives-up-forest}
 use Rattle.campl_types.specs.World.{World, world_of}
 use Rattle.campl_types.specs.Views.{turned}
-use Rattle.campl_types.specs.Held.{On}
 use Rattle.campl_types.proofs.Turned.{turned-twice}
-use Rattle.campl_meaning.specs.States.{Message, EndPair, State, Runs, Serves}
+use Rattle.campl_meaning.specs.States.{Message, EndPair, State, Runs}
 use Rattle.campl_meaning.specs.Reductions.{Configuration}
-use Rattle.campl_meaning.specs.Apart.{Place, At, In, Gone, IsCarried, IsJoined, IsHeldBy, IsServedBy, IsPlaced, IsNamed, Node, Holder, Pair, node_of, graph, owes_pair}
-use Rattle.campl_meaning.specs.Lawful.{seen, Agree, IsPairOf, AreLastPairs, Lawful}
+use Rattle.campl_meaning.specs.Apart.{Place, At, In, Gone, IsCarried, IsJoined, IsNamed, Node, Holder, Pair, node_of, graph, owes_pair}
+use Rattle.campl_meaning.specs.Lawful.{seen, Agree, IsPairOf, Lawful}
 use Rattle.campl_meaning.proofs.Agreeing.{agree-turned}
-use Rattle.campl_meaning.proofs.Pairs.{HasPair, the-pair, carried-right, none-carried}
+use Rattle.campl_meaning.proofs.Pairs.{carried-right, none-carried}
+use Rattle.campl_frame.specs.Frame.{IsSpent, IsGoodPair, IsLocal}
+use Rattle.campl_frame.proofs.Leaving.{leaving, sorts, stays-put, goes-unkept, was-put, was-gone, no-pair}
+use Rattle.campl_frame.proofs.Stays.{agree-same}
+use Rattle.campl_frame.proofs.Frame.{local-lawful}
 use Rattle.campl_kept_identities.proofs.Pairs.{LiesBehind, pair-behind, owes-behind, carried-behind, not-empty}
-use Rattle.campl_kept_identities.proofs.Places.{forgets, stays-at, stays-in, stays-gone, stays-own, stood-at, stood-in, was-given-up}
 use Rattle.campl_kept_identities.proofs.Around.{Went, Stayed, Left, FarX, FarY, Kept, IsAround}
-use Rattle.campl_kept_identities.proofs.Agreeing.{agree-kept, far-agree, far-pair}
+use Rattle.campl_kept_identities.proofs.Agreeing.{far-agree, far-pair}
 
 -- the process p has the two ends x and y of an identity, and no other that may be used
 pub record IsIdentity (source : Program) (c : Configuration) (l : Lawful source c) (p : Who) (x y x2 y2 : End) : Type 0 where
@@ -40,8 +39,11 @@ module _ (source : Program) (c d : Configuration) (l : Lawful source c) (p : Who
   abbrev w : World
   w = world_of source
 
+  abbrev none_kept : End → Bool
+  none_kept e = false
+
   abbrev place2 : End → Place
-  place2 e = forgets p (l.place e)
+  place2 = leaving p none_kept l.place
 
   back_x : c.partner x2 ≡ Some x
   back_x = l.apart.placed.paired.back x x2 k.partner_x
@@ -89,20 +91,11 @@ module _ (source : Program) (c d : Configuration) (l : Lawful source c) (p : Who
 
   -- What is owed
 
-  no-pair : (z : End) → l.place z ≡ At p → owes_pair (c.owed z) ≡ false
-  no-pair z i = elim (split (owes_pair (c.owed z))) [
-    | inl j ↦
-        let h : HasPair (c.owed z) = the-pair (c.owed z) j in
-        let gone : l.place z ≡ Gone = (l.pairs.given_up z h.one h.other h.before h.after h.is).0 in
-        absurd (cc (i, gone))
-    | inr j ↦ j
-  ]
-
   no-pair-x : owes_pair (c.owed x) ≡ false
-  no-pair-x = no-pair x k.at_x
+  no-pair-x = no-pair source c l p x k.at_x
 
   no-pair-y : owes_pair (c.owed y) ≡ false
-  no-pair-y = no-pair y k.at_y
+  no-pair-y = no-pair source c l p y k.at_y
 
   owes-pair : (e : End) → (owes_pair (d.owed e) ≡ false) ⊎ (owes_pair (d.owed e) ≡ owes_pair (c.owed e))
   owes-pair e = elim (s.ends e) [
@@ -141,78 +134,29 @@ module _ (source : Program) (c d : Configuration) (l : Lawful source c) (p : Who
     | Kept a j o ↦ o ∙ l.apart.placed.idle e (sym j ∙ n)
   ]
 
-  at-other : (e : End) (who : Who) → p ≢ who → l.place e ≡ At who → IsJoined c e → (place2 e ≡ At who) × IsJoined d e
-  at-other e who n i j =
-      let o : (x ≢ e) × (y ≢ e) = other-place e (At who) i (λ q. n (sym (cc q))) in
-      (stays-at p who (l.place e) n i, stays-joined e o.0 o.1 j)
+  -- what stands at a node stood there, and that isn't p
+  stands : (v : Who) (e : End) → IsJoined d e → place2 e ≡ At v → (v ≢ p) × (l.place e ≡ At v) × IsJoined c e
+  stands v e j i =
+      let at : l.place e ≡ At v = was-put p none_kept l.place e (At v) i (λ q. cc q) in
+      ((λ q. let g : place2 e ≡ Gone = goes-unkept p none_kept l.place e (at ∙ ap At q) refl in cc (g, i)), at, was-joined e j)
 
-  held : (q : Path) (e : End) → IsHeldBy d q e → (place2 e ≡ At (Process q)) × IsJoined d e
-  held q e (r, z, i, f) =
-      let o : (p ≢ Process q) × (c.nodes (Process q) ≡ Some (Runs r)) = old-node (Process q) (Runs r) i in
-      let h : (l.place e ≡ At (Process q)) × IsJoined c e = l.apart.placed.held q e (r, z, o.1, f) in
-      at-other e (Process q) o.0 h.0 h.1
+  nowhere : (e : End) → d.partner e ≡ None → place2 e ≡ Gone
+  nowhere e i = elim (s.ends e) [
+    | Left a j o ↦ goes-unkept p none_kept l.place e (elim a [ inl q ↦ ap l.place (sym q) ∙ k.at_x | inr q ↦ ap l.place (sym q) ∙ k.at_y ]) refl
+    | FarX a j o ↦ absurd (cc (i, j))
+    | FarY a j o ↦ absurd (cc (i, j))
+    | Kept a j o ↦ let g : l.place e ≡ Gone = l.apart.placed.nowhere e (sym j ∙ i) in stays-put p none_kept l.place e (λ q. cc (g, q)) ∙ g
+  ]
 
-  served : (n : ℕ) (e : End) → IsServedBy d n e → (place2 e ≡ At (Service n)) × IsJoined d e
-  served n e (t, i, f, g) =
-      let o : (p ≢ Service n) × (c.nodes (Service n) ≡ Some (Serves t)) = old-node (Service n) (Serves t) i in
-      let h : (l.place e ≡ At (Service n)) × IsJoined c e = l.apart.placed.served n e (t, o.1, f, g) in
-      at-other e (Service n) o.0 h.0 h.1
-
-  carried : (z e : End) → IsCarried (d.owed z) e → (place2 e ≡ In z) × IsJoined d e
-  carried z e h =
-      let i : (l.place e ≡ In z) × IsJoined c e = l.apart.placed.carried z e (was-carried z e h) in
-      let o : (x ≢ e) × (y ≢ e) = other-place e (In z) i.0 (λ q. cc q) in
-      (stays-in p z (l.place e) i.0, stays-joined e o.0 o.1 i.1)
-
-  holder : (q : Path) (e : End) → IsJoined d e → place2 e ≡ At (Process q) → IsHeldBy d q e
-  holder q e j i =
-      let o : (p ≢ Process q) × (l.place e ≡ At (Process q)) = stood-at p (Process q) (l.place e) i in
-      let (r, z, f, g) = l.apart.placed.holder q e (was-joined e j) o.1 in
-      (r, z, new-node (Process q) (Runs r) o.0 f, g)
-
-  server : (n : ℕ) (e : End) → IsJoined d e → place2 e ≡ At (Service n) → IsServedBy d n e
-  server n e j i =
-      let o : (p ≢ Service n) × (l.place e ≡ At (Service n)) = stood-at p (Service n) (l.place e) i in
-      let (t, f, g, h) = l.apart.placed.server n e (was-joined e j) o.1 in
-      (t, new-node (Service n) (Serves t) o.0 f, g, h)
-
-  carrier : (z e : End) → IsJoined d e → place2 e ≡ In z → IsCarried (d.owed z) e
-  carrier z e j i = stays-carried z e (l.apart.placed.carrier z e (was-joined e j) (stood-in p z (l.place e) i))
-
-  placed : IsPlaced d place2
-  placed = record {
-    kinds = λ who t i. l.apart.placed.kinds who t (old-node who t i).1;
-    paired = s.paired;
-    idle = idle;
-    nowhere = λ e i. elim (s.ends e) [
-      | Left a j o ↦ stays-own p (l.place e) (elim a [ inl q ↦ ap l.place (sym q) ∙ k.at_x | inr q ↦ ap l.place (sym q) ∙ k.at_y ])
-      | FarX a j o ↦ absurd (cc (i, j))
-      | FarY a j o ↦ absurd (cc (i, j))
-      | Kept a j o ↦ stays-gone p (l.place e) (l.apart.placed.nowhere e (sym j ∙ i))
-    ];
-    held = held;
-    served = served;
-    carried = carried;
-    shut = λ n t i h.
-        let (g, j) = l.apart.placed.shut n t (old-node (Service n) (Serves t) i).1 h in
-        let (nx, ny) = other-place t.end Gone g (λ m. cc m) in
-        (stays-gone p (l.place t.end) g, stays-joined t.end nx ny j);
-    holder = holder;
-    server = server;
-    carrier = carrier;
-    names = λ q r i. l.apart.placed.names q r (old-node (Process q) (Runs r) i).1;
-    ends = λ q r a b e i f g. l.apart.placed.ends q r a b e (old-node (Process q) (Runs r) i).1 f g;
-  }
-
-  given-up : (e : End) → IsJoined d e → place2 e ≡ Gone → (l.channel e ≡ None) ⊎ ((r : Side) × (l.channel e ≡ Some (On r TopBot)))
-  given-up e j i = elim (was-given-up p (l.place e) i) [
-    | inl g ↦ l.given_up e (was-joined e j) g
-    | inr g ↦
+  gone : (e : End) → IsJoined d e → place2 e ≡ Gone → IsSpent (l.channel e) ⊎ ((l.place e ≡ Gone) × IsJoined c e)
+  gone e j i = elim (was-gone p none_kept l.place e i) [
+    | inl g ↦ inr (g, was-joined e j)
+    | inr (at, f) ↦
         let n : (x ≢ e) × (y ≢ e) = not-left e j in
-        elim (k.alone e (was-joined e j) g) [
+        elim (k.alone e (was-joined e j) at) [
           | inl q ↦ absurd (n.0 (sym q))
           | inr (inl q) ↦ absurd (n.1 (sym q))
-          | inr (inr q) ↦ inl q
+          | inr (inr q) ↦ inl (inl q)
         ]
   ]
 
@@ -240,7 +184,7 @@ module _ (source : Program) (c d : Configuration) (l : Lawful source c) (p : Who
     | FarY a j o ↦
         let q : x2 ≡ f = cc (i, j) in
         subst (λ (z : End). Agree w d l.channel z f) a (subst (λ (z : End). Agree w d l.channel y2 z) q (agree-turned w d l.channel x2 y2 new-agree))
-    | Kept a j o ↦ agree-kept w l.channel c d e f o (kept-too e f a i) (l.agree e f (sym j ∙ i))
+    | Kept a j o ↦ agree-same w c d l.channel l.channel e f refl refl o (kept-too e f a i) (l.agree e f (sym j ∙ i))
   ]
 
   -- Part 4
@@ -282,16 +226,17 @@ module _ (source : Program) (c d : Configuration) (l : Lawful source c) (p : Who
     | Kept q j o ↦ record { old = before; was = sym o ∙ h; fits = λ f n. l.pairs.typed z a b f before after (sym o ∙ h) (sym j ∙ n) }
   ]
 
-  pairs : AreLastPairs w d place2 l.channel
-  pairs = record {
-    different = λ z a b before after h. let q : WasPair z a b before after = was-pair z a b before after h in l.pairs.different z a b q.old after q.was;
-    last = λ z a b before after h. let q : WasPair z a b before after = was-pair z a b before after h in l.pairs.last z a b q.old after q.was;
-    given_up = λ z a b before after h.
-        let q : WasPair z a b before after = was-pair z a b before after h in
-        let g : (l.place z ≡ Gone) × (l.channel z ≡ None) = l.pairs.given_up z a b q.old after q.was in
-        (stays-gone p (l.place z) g.0, g.1);
-    typed = λ z a b f before after h n. let q : WasPair z a b before after = was-pair z a b before after h in q.fits f n;
-  }
+  pairs : (z a b : End) (before after : List Message) → d.owed z ≡ before ++ (EndPair a b ∷ after) → IsGoodPair w d place2 l.channel z a b before after
+  pairs z a b before after h =
+      let q : WasPair z a b before after = was-pair z a b before after h in
+      let (g, n) = l.pairs.given_up z a b q.old after q.was in
+      record {
+        different = l.pairs.different z a b q.old after q.was;
+        last = l.pairs.last z a b q.old after q.was;
+        place = stays-put p none_kept l.place z (λ i. cc (g, i)) ∙ g;
+        channel = n;
+        typed = q.fits;
+      }
 
   -- Part 6
 
@@ -314,25 +259,29 @@ module _ (source : Program) (c d : Configuration) (l : Lawful source c) (p : Who
     others = λ e nx ny. refl;
   }) l.apart.forest
 
-  nowhere : (e : End) (ms : List Message) → owes_pair ms ≡ false → node_of Gone e ms ≡ None
-  nowhere e ms i = rw i refl
+  none-there : (e : End) (ms : List Message) → owes_pair ms ≡ false → node_of Gone e ms ≡ None
+  none-there e ms i = rw i refl
 
-  stands : (e : End) (o : Place) → l.place e ≡ o → (node_of (forgets p o) e (d.owed e) ≡ node_of o e (c.owed e)) ⊎ (node_of (forgets p o) e (d.owed e) ≡ None)
-  stands e (In z) i = inl refl
-  stands e Gone i = elim (owes-pair e) [
-    | inl q ↦ inr (nowhere e (d.owed e) q)
+  still : (e : End) (o : Place) → (node_of o e (d.owed e) ≡ node_of o e (c.owed e)) ⊎ (node_of o e (d.owed e) ≡ None)
+  still e (At who) = inl refl
+  still e (In z) = inl refl
+  still e Gone = elim (owes-pair e) [
+    | inl q ↦ inr (none-there e (d.owed e) q)
     | inr q ↦ inl (ap (λ (t : Bool). if t then Some (Pair e) else None) q)
   ]
-  stands e (At who) i = elim (split (same_who p who)) [
-    | inl q ↦
-        let z : l.place e ≡ At p = i ∙ ap At (sym (same_who-is p who q)) in
-        let none : owes_pair (d.owed e) ≡ false = elim (owes-pair e) [ inl u ↦ u | inr u ↦ u ∙ no-pair e z ] in
-        inr (rw q (nowhere e (d.owed e) none))
-    | inr q ↦ inl (rw q refl)
+
+  now-stands : (e : End) → (node_of (place2 e) e (d.owed e) ≡ node_of (l.place e) e (c.owed e)) ⊎ (node_of (place2 e) e (d.owed e) ≡ None)
+  now-stands e = elim (sorts p none_kept l.place e) [
+    | inl (q, n) ↦
+        let same : node_of (place2 e) e (d.owed e) ≡ node_of (l.place e) e (d.owed e) = ap (λ (o : Place). node_of o e (d.owed e)) q in
+        elim (still e (l.place e)) [ inl i ↦ inl (same ∙ i) | inr i ↦ inr (same ∙ i) ]
+    | inr (q, at, n) ↦
+        let none : owes_pair (d.owed e) ≡ false = elim (owes-pair e) [ inl u ↦ u | inr u ↦ u ∙ no-pair source c l p e at ] in
+        inr (ap (λ (o : Place). node_of o e (d.owed e)) q ∙ none-there e (d.owed e) none)
   ]
 
   forest : NoCycle (graph d place2)
-  forest = gives-up-forest same_end tells between (graph d place2) (record { partners = refl; others = λ e. stands e (l.place e) refl }) first-forest
+  forest = gives-up-forest same_end tells between (graph d place2) (record { partners = refl; others = now-stands }) first-forest
 
   -- Part 7
 
@@ -344,20 +293,38 @@ module _ (source : Program) (c d : Configuration) (l : Lawful source c) (p : Who
 
   -- All parts
 
-  pub linked-lawful : Lawful source d
-  linked-lawful = record {
-    accepted = l.accepted;
-    channel = l.channel;
-    place = place2;
+  local : IsLocal source c d l p (λ v t. ⊥) None l.channel place2
+  local = record {
+    here = λ v t n. absurd n;
+    others = λ v t n i. new-node v t (λ q. n (sym q)) i;
+    whose = λ v t i. let (n, j) = old-node v t i in inr ((λ q. n (sym q)), j);
     nodes = l.nodes;
-    listed = λ who t i. l.listed who t (old-node who t i).1;
+    listed = λ v t i. l.listed v t (old-node v t i).1;
     ends = l.ends;
-    joined = λ e j. l.joined e (was-joined e j);
-    has_type = λ q e (r, z, i, f). l.has_type q e (r, z, (old-node (Process q) (Runs r) i).1, f);
-    apart = record { placed = placed; forest = forest; named = named };
-    given_up = given-up;
-    typed = λ q r i. l.typed q r (old-node (Process q) (Runs r) i).1;
+    within = λ e j. l.joined e (was-joined e j);
+    paired = s.paired;
+    joined = λ e j n. let (nx, ny) = other-place e (l.place e) refl n in stays-joined e nx ny j;
+    idle = idle;
+    named = named;
+    forest = forest;
+    place = λ e j n m. stays-put p none_kept l.place e n;
+    channel = λ e j n m. refl;
+    own = λ v t e n. absurd n;
+    at = λ v e j i. inr (stands v e j i);
+    carrier = λ z e j i. stays-carried z e (l.apart.placed.carrier z e (was-joined e j) (was-put p none_kept l.place e (In z) i (λ q. cc q)));
+    carried = λ z e h. inl (was-carried z e h, λ q. cc q);
+    gone = gone;
+    nowhere = nowhere;
+    kinds = λ v t n. absurd n;
+    names = λ v r n. absurd n;
+    once = λ v r a b e n. absurd n;
+    typed = λ v r n. absurd n;
+    types = λ v r a e n. absurd n;
+    phases = λ v t n. absurd n;
+    shut = λ v t n. absurd n;
     agree = agree;
-    pairs = pairs;
-    phases = λ n t i. l.phases n t (old-node (Service n) (Serves t) i).1;
+    pairs = λ z a b before after h. inr (pairs z a b before after h);
   }
+
+  pub linked-lawful : Lawful source d
+  linked-lawful = local-lawful source c d l p (λ v t. ⊥) None l.channel place2 local

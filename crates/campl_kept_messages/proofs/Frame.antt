@@ -1,32 +1,35 @@
--- The frame: a step of one process or service on one end, which gives this end a new type, keeps all parts of lawfulness where it keeps
--- those of the end and its partner.
-use Rattle.std.proofs.Common.{◌≡◌, ◌≢◌, ℕ, true, false, List, ◌∷◌, ◌++◌, ◌⊎◌, inl, inr, refl, sym, ap, subst, ◌∙◌, Option, Some, None, if◌then◌else◌, true≢false}
+-- A step of one process or service on one end, which gives this end a new type, keeps a configuration lawful where it keeps what its partner
+-- is to take.
+use Rattle.std.proofs.Common.{◌≡◌, ◌≢◌, Bool, true, false, List, ◌∷◌, ◌++◌, ◌⊎◌, inl, inr, refl, sym, ap, subst, ◌∙◌, Option, Some, None, if◌then◌else◌, true≢false}
 use Rattle.std.proofs.Math.Path.{fun_ext}
 use Rattle.campl_tree.specs.declared.service.Side.{Side}
 use Rattle.campl_tree.specs.Plain.ChanType.{ChanType, TopBot}
 use Rattle.campl_tree.specs.Plain.Decl.{Program}
-use Rattle.campl_machine.specs.Names.{Path, End, Who, Process, Service, same_end}
-use Rattle.campl_machine.specs.Progress.{Within}
-use Rattle.campl_machine.proofs.Same.{same_end-refl}
+use Rattle.campl_machine.specs.Names.{End, Who, same_end, same_who}
+use Rattle.campl_machine.proofs.Same.{same_end-refl, same_who-is, same_who-refl}
 use Rattle.campl_machine.proofs.Ends.{apart, same-end}
+use Rattle.campl_machine.proofs.Updates.{split}
 use Rattle.campl_types.specs.Names.{Name, same_name, found}
 use Rattle.campl_types.proofs.Names.{split-names, same-itself}
-use Rattle.campl_types.specs.SameType.{bare_chan}
 use Rattle.campl_types.specs.World.{World, world_of}
 use Rattle.campl_types.specs.Polarity.{Splits}
 use Rattle.campl_types.specs.Views.{View, deed_of}
 use Rattle.campl_types.specs.Held.{Channel, On, with}
-use Rattle.campl_service.specs.declared.phase.Phase.{Phase}
 use Rattle.campl_service.specs.declared.phase.Phase.TheVariants as phase
-use Rattle.campl_peel.specs.Terms.{TermIsWellFormed, held_ends}
+use Rattle.campl_peel.specs.Terms.{held_ends}
 use Rattle.campl_meaning.specs.States.{Message, EndPair, Ends, Running, Attending, State, Runs, Serves}
 use Rattle.campl_meaning.specs.Reductions.{Configuration}
 use Rattle.campl_meaning.specs.Views.{view_in, TakesAll}
-use Rattle.campl_meaning.specs.Apart.{Place, At, In, Gone, IsCarried, IsJoined, IsApart}
-use Rattle.campl_meaning.specs.Lawful.{Channels, seen, IsTypedAt, Agree, IsPairOf, IsInPhase, phase_type, service_side, Lawful}
+use Rattle.campl_meaning.specs.Apart.{Place, At, In, Gone, IsCarried, IsJoined, IsOfKind}
+use Rattle.campl_meaning.specs.Lawful.{Channels, seen, IsTypedAt, Agree, IsPairOf, IsInPhase, Lawful}
 use Rattle.campl_meaning.proofs.Agreeing.{agree-turned}
-use Rattle.campl_kept_messages.proofs.Stays.{gone_on, from}
-use Rattle.campl_kept_messages.proofs.Letters.{carried-first, carried-second}
+use Rattle.campl_frame.specs.Frame.{Holds, IsSpent, IsOldPair, IsGoodPair, IsLocal}
+use Rattle.campl_frame.proofs.Alone.{IsOneOf, alone-here, alone-others, alone-whose, alone-listed, alone-named}
+use Rattle.campl_frame.proofs.Leaving.{leaving, stays-put, stays-kept, goes-unkept, was-put, was-gone, leaving-forest}
+use Rattle.campl_frame.proofs.Stays.{carries}
+use Rattle.campl_frame.proofs.Frame.{local-lawful}
+use Rattle.campl_kept_messages.proofs.Continues.{Continues, is_open, keeps_ends, gone_on, of-kind, went-on, held-before, held-after, one-end, end-stood, own-names, own-once, own-type}
+use Rattle.campl_kept_messages.proofs.Letters.{SamePairs}
 
 -- A new channel at one end
 
@@ -53,13 +56,6 @@ held-here e new channel es x hx one = fun_ext (λ y. elim (split-names x y) [
     go : (y : Name) → same_name x y ≡ false → (o : Option End) → found y es ≡ o → held_ends (renewed e new channel) es y ≡ held_ends channel es y
     go y i None h = rw h refl
     go y i (Some a) h = rw h (new-other e new channel a (λ k. let s : same_name x y ≡ true = subst (λ t. same_name x t ≡ true) (one y a h (sym k)) (same-itself x) in true≢false (sym s ∙ i)))
-
-pub held-other : (e : End) (new : Channel) (channel : Channels) (es : Ends) → ((y : Name) (a : End) → found y es ≡ Some a → e ≢ a) → held_ends (renewed e new channel) es ≡ held_ends channel es
-held-other e new channel es off = fun_ext (λ y. go y (found y es) refl)
-  where
-    go : (y : Name) (o : Option End) → found y es ≡ o → held_ends (renewed e new channel) es y ≡ held_ends channel es y
-    go y None h = rw h refl
-    go y (Some a) h = rw h (new-other e new channel a (off y a h))
 
 -- Partners
 
@@ -88,52 +84,27 @@ module _ (w : World) (c d : Configuration) (channel channel2 : Channels) where
     ]
   ]
 
--- Services
-
-phase-shut : (ph : Phase) → (ph ≡ phase.Closed) ⊎ (ph ≢ phase.Closed)
-phase-shut phase.Pick = inr (λ i. cc i)
-phase-shut phase.Text = inr (λ i. cc i)
-phase-shut phase.Send = inr (λ i. cc i)
-phase-shut phase.Closed = inl refl
-
--- an end that stands at a node and may still be used is that of no other service
-pub unserved : (source : Program) (c : Configuration) (l : Lawful source c) (who : Who) (e : End) (s : Side) (u : ChanType) → l.place e ≡ At who → l.channel e ≡ Some (On s u) → bare_chan u ≢ TopBot
-    → (n : ℕ) (a : Attending) → c.nodes (Service n) ≡ Some (Serves a) → who ≢ Service n → a.end ≢ e
-unserved source c l who e s u pe ce more n a i h q = elim (phase-shut a.serving.phase) [
-  | inl shut ↦
-      let p : IsInPhase l.channel a = l.phases n a i in
-      let k : ◌≡◌ {A = Option Channel} (Some (On s u)) (Some (On (service_side a.serving.kind) p.channel_type)) = sym ce ∙ (sym (ap l.channel q) ∙ p.held) in
-      let j : On s u ≡ On (service_side a.serving.kind) p.channel_type = cc k in
-      let t : u ≡ p.channel_type = cc j in
-      more (ap bare_chan t ∙ (p.same ∙ ap (λ z. bare_chan (phase_type a.serving.kind z)) shut))
-  | inr busy ↦
-      let p : l.place a.end ≡ At (Service n) = (l.apart.placed.served n a.end (a, i, refl, busy)).0 in
-      let k : At who ≡ At (Service n) = sym pe ∙ (sym (ap l.place q) ∙ p) in
-      h (cc k)
-]
-
 -- The frame
 
--- who goes on as s2 behind a step on its end e, whose partner is f: e's new channel and what is owed then keep the parts for both
-pub record Touches (source : Program) (c : Configuration) (l : Lawful source c) (who : Who) (s s2 : State) (e f : End) (new : Channel) (owed2 : End → List Message) (place2 : End → Place) : Type 0 where
+-- who goes on as s2 behind a step on its end e, whose partner is f: e's new channel and what is owed then keep what both are to take
+pub record Touches (source : Program) (c : Configuration) (l : Lawful source c) (who : Who) (s s2 : State) (e f : End) (new : Channel) (owed2 : End → List Message) : Type 0 where
   pub is : c.nodes who ≡ Some s
+  pub on : Continues s s2
   pub stands : l.place e ≡ At who
   pub joined : c.partner e ≡ Some f
-  pub apart : IsApart (gone_on c who s2 owed2) place2
-  pub elsewhere : (a : End) → e ≢ a → place2 a ≡ l.place a
+  pub same : SamePairs c owed2
   pub only : (a : End) → e ≢ a → f ≢ a → owed2 a ≡ c.owed a
-  pub given_up : place2 e ≡ Gone → (t : Side) × (new ≡ On t TopBot)
-  pub typed : (p : Path) (r : Running) → who ≡ Process p → s2 ≡ Runs r → IsTypedAt (world_of source) (renewed e new l.channel) r
-  pub phases : (n : ℕ) (b : Attending) → who ≡ Service n → s2 ≡ Serves b → IsInPhase (renewed e new l.channel) b
-  pub others : (n : ℕ) (a : Attending) → c.nodes (Service n) ≡ Some (Serves a) → who ≢ Service n → a.end ≢ e
+  pub closed : keeps_ends s2 ≡ false → (t : Side) × (new ≡ On t TopBot)
+  pub typed : (r : Running) → s2 ≡ Runs r → IsTypedAt (world_of source) (renewed e new l.channel) r
+  pub phases : (b : Attending) → s2 ≡ Serves b → IsInPhase (renewed e new l.channel) b
   pub fits : Agree (world_of source) (gone_on c who s2 owed2) (renewed e new l.channel) e f
   pub no_pair : (a b : End) (before after : List Message) → owed2 e ≡ before ++ (EndPair a b ∷ after) → ⊥
   -- a pair that the partner owes was owed before, and is reached by what is now before it
   pub pairs : (a b : End) (before after : List Message) → owed2 f ≡ before ++ (EndPair a b ∷ after) → (old : List Message) × (c.owed f ≡ old ++ (EndPair a b ∷ after))
       × ((v : View) (x y : ChanType) → TakesAll (world_of source) (seen l.channel e) old v → deed_of (world_of source) v ≡ Splits x y → TakesAll (world_of source) (view_in (Some new)) before v)
 
-module _ (source : Program) (c : Configuration) (l : Lawful source c) (who : Who) (s s2 : State) (e f : End) (new : Channel) (owed2 : End → List Message) (place2 : End → Place)
-    (t : Touches source c l who s s2 e f new owed2 place2) where
+module _ (source : Program) (c : Configuration) (l : Lawful source c) (who : Who) (s s2 : State) (e f : End) (new : Channel) (owed2 : End → List Message)
+    (t : Touches source c l who s s2 e f new owed2) where
   abbrev w : World
   w = world_of source
 
@@ -143,106 +114,155 @@ module _ (source : Program) (c : Configuration) (l : Lawful source c) (who : Who
   abbrev channel2 : Channels
   channel2 = renewed e new l.channel
 
-  -- a pair that is owed now was owed before
-  was-pair : (z a b : End) (before after : List Message) → owed2 z ≡ before ++ (EndPair a b ∷ after) → (e ≢ z) × (old : List Message) × (c.owed z ≡ old ++ (EndPair a b ∷ after))
-  was-pair z a b before after i = elim (same-end e z) [
-    | inl k ↦ absurd (t.no_pair a b before after (subst (λ y. owed2 y ≡ before ++ (EndPair a b ∷ after)) (sym k) i))
-    | inr n ↦ elim (same-end f z) [
-      | inl k ↦
-          let (old, j, r) = t.pairs a b before after (subst (λ y. owed2 y ≡ before ++ (EndPair a b ∷ after)) (sym k) i) in
-          (n, old, subst (λ y. c.owed y ≡ old ++ (EndPair a b ∷ after)) k j)
-      | inr m ↦ (n, before, sym (t.only z n m) ∙ i)
-    ]
+  abbrev kept : End → Bool
+  kept a = keeps_ends s2
+
+  abbrev place2 : End → Place
+  place2 = leaving who kept l.place
+
+  abbrev IsNew : Who → State → Type 0
+  IsNew v u = (v ≡ who) × (◌≡◌ {A = Option State} (Some s2) (Some u))
+
+  -- Nodes
+
+  whose : (v : Who) (u : State) → d.nodes v ≡ Some u → IsOneOf c.nodes who (Some s2) v u
+  whose = alone-whose c.nodes who (Some s2)
+
+  is-next : (u : State) → ◌≡◌ {A = Option State} (Some s2) (Some u) → s2 ≡ u
+  is-next u j = cc j
+
+  kind : IsOfKind who s
+  kind = l.apart.placed.kinds who s t.is
+
+  on-as : (u : State) → ◌≡◌ {A = Option State} (Some s2) (Some u) → Continues s u
+  on-as u j = subst (Continues s) (is-next u j) t.on
+
+  kept-as : (u : State) → ◌≡◌ {A = Option State} (Some s2) (Some u) → keeps_ends s2 ≡ keeps_ends u
+  kept-as u j = ap keeps_ends (is-next u j)
+
+  -- Ends
+
+  own : (v : Who) (u : State) (a : End) → IsNew v u → Holds u a → (place2 a ≡ At v) × IsJoined d a
+  own v u a (i, j) h =
+      let (at, joined, stays) = held-before source c l who s u a kind t.is (on-as u j) h in
+      (stays-kept who kept l.place a (kept-as u j ∙ stays) ∙ (at ∙ ap At (sym i)), joined)
+
+  stands : (v : Who) (a : End) → IsJoined d a → place2 a ≡ At v → ((u : State) × IsNew v u × Holds u a) ⊎ ((v ≢ who) × (l.place a ≡ At v) × IsJoined c a)
+  stands v a j i = go (was-put who kept l.place a (At v) i (λ k. cc k)) (split (same_who who v)) (split (keeps_ends s2))
+    where
+      go : l.place a ≡ At v → (same_who who v ≡ true) ⊎ (same_who who v ≡ false) → (keeps_ends s2 ≡ true) ⊎ (keeps_ends s2 ≡ false) → ((u : State) × IsNew v u × Holds u a) ⊎ ((v ≢ who) × (l.place a ≡ At v) × IsJoined c a)
+      go at (inr n) o = inr ((λ k. true≢false (sym (same_who-refl who) ∙ (ap (same_who who) (sym k) ∙ n))), at, j)
+      go at (inl k) (inl o) =
+          let wv : who ≡ v = same_who-is who v k in
+          inl (s2, (sym wv, refl), held-after source c l who s s2 a kind t.is t.on o (at ∙ ap At (sym wv), j))
+      go at (inl k) (inr o) =
+          let g : place2 a ≡ Gone = goes-unkept who kept l.place a (at ∙ ap At (sym (same_who-is who v k))) o in
+          absurd (cc (g, i))
+
+  gone : (a : End) → IsJoined d a → place2 a ≡ Gone → IsSpent (channel2 a) ⊎ ((l.place a ≡ Gone) × IsJoined c a)
+  gone a j i = elim (was-gone who kept l.place a i) [
+    | inl g ↦ inr (g, j)
+    | inr (at, o) ↦
+        let (r, q) = t.closed o in
+        let same : e ≡ a = one-end source c l who s s2 e a kind t.is t.on o (t.stands, (f, t.joined)) (at, j) in
+        inl (inr (r, subst (λ z. channel2 z ≡ Some (On r TopBot)) same (new-here e new l.channel ∙ ap Some q)))
   ]
 
-  -- its ends are carried, and so others than e
-  carried-apart : (z a : End) → l.place a ≡ In z → e ≢ a
-  carried-apart z a i k = let q : At who ≡ In z = sym t.stands ∙ (ap l.place k ∙ i) in cc q
+  shut : (v : Who) (b : Attending) → IsNew v (Serves b) → b.serving.phase ≡ phase.Closed → (place2 b.end ≡ Gone) × IsJoined d b.end
+  shut v b (i, j) k =
+      let (at, joined) = end-stood source c l who s b kind t.is (on-as (Serves b) j) in
+      (goes-unkept who kept l.place b.end at (kept-as (Serves b) j ∙ ap is_open k), joined)
 
-  pair-kept : (before : List Message) (y y2 a b : End) (ms : List Message) → e ≢ a → e ≢ b → IsPairOf w l.channel ms y a b
-      → ((v : View) (x z : ChanType) → TakesAll w (seen l.channel y) ms v → deed_of w v ≡ Splits x z → TakesAll w (seen channel2 y2) before v) → IsPairOf w channel2 before y2 a b
-  pair-kept before y y2 a b ms na nb p reach = record {
-    view = p.view;
-    first = p.first;
-    second = p.second;
-    reached = reach p.view p.first p.second p.reached p.splits;
-    splits = p.splits;
-    is_first = (p.is_first.0, new-other e new l.channel a na ∙ p.is_first.1, p.is_first.2);
-    is_second = (p.is_second.0, new-other e new l.channel b nb ∙ p.is_second.1, p.is_second.2);
-  }
+  other-channel : (a : End) → l.place a ≢ At who → channel2 a ≡ l.channel a
+  other-channel a n = new-other e new l.channel a (λ k. n (ap l.place (sym k) ∙ t.stands))
 
-  pair-typed : (z a b y : End) (before after : List Message) → owed2 z ≡ before ++ (EndPair a b ∷ after) → c.partner z ≡ Some y → IsPairOf w channel2 before y a b
-  pair-typed z a b y before after i pz =
-      let (n, old, j) = was-pair z a b before after i in
-      let na : e ≢ a = carried-apart z a (l.apart.placed.carried z a (subst (λ ms. IsCarried ms a) (sym j) (carried-first old after a b))).0 in
-      let nb : e ≢ b = carried-apart z b (l.apart.placed.carried z b (subst (λ ms. IsCarried ms b) (sym j) (carried-second old after a b))).0 in
-      elim (same-end f z) [
-        | inl k ↦
-            let ye : y ≡ e = cc (k, pz, l.apart.placed.paired.back e f t.joined) in
-            let (ms, q, reach) = t.pairs a b before after (subst (λ y. owed2 y ≡ before ++ (EndPair a b ∷ after)) (sym k) i) in
-            let p : IsPairOf w l.channel ms e a b = l.pairs.typed f a b e ms after q (l.apart.placed.paired.back e f t.joined) in
-            subst (λ y. IsPairOf w channel2 before y a b) (sym ye)
-            (pair-kept before e e a b ms na nb p (λ v x u h g. subst (λ o. TakesAll w (view_in o) before v) (sym (new-here e new l.channel)) (reach v x u h g)))
-        | inr m ↦
-            let ny : e ≢ y = λ k. m (cc (l.apart.placed.paired.back z y pz, t.joined, k)) in
-            pair-kept before y y a b before na nb (l.pairs.typed z a b y before after (sym (t.only z n m) ∙ i) pz)
-            (λ v x u h g. subst (λ o. TakesAll w (view_in o) before v) (sym (new-other e new l.channel y ny)) h)
-      ]
+  types : (r : Running) (x : Name) (a : End) → Continues s (Runs r) → found x r.ends ≡ Some a → (y : Channel) × (channel2 a ≡ Some y)
+  types r x a on h = elim (same-end e a) [
+    | inl k ↦ (new, subst (λ z. channel2 z ≡ Some new) k (new-here e new l.channel))
+    | inr n ↦ let (y, j) = own-type source c l who s r x a kind t.is on h in (y, new-other e new l.channel a n ∙ j)
+  ]
 
-  pub touched : Lawful source d
-  touched = record {
-    accepted = l.accepted;
-    channel = channel2;
-    place = place2;
+  -- Pairs
+
+  -- the ends of a pair are carried, and so others than e
+  not-in-pair : (z a b g : End) (before after : List Message) → c.owed z ≡ before ++ (EndPair a b ∷ after) → (g ≡ a) ⊎ (g ≡ b) → channel2 g ≡ l.channel g
+  not-in-pair z a b g before after i m =
+      let (at, j) = l.apart.placed.carried z g (subst (λ ms. IsCarried ms g) (sym i) (carries before after a b g m)) in
+      other-channel g (λ k. cc (at, k))
+
+  back : c.partner f ≡ Some e
+  back = l.apart.placed.paired.back e f t.joined
+
+  -- a pair that the partner owes
+  partner-pair : (a b : End) (before after : List Message) → owed2 f ≡ before ++ (EndPair a b ∷ after) → IsGoodPair w d place2 channel2 f a b before after
+  partner-pair a b before after i =
+      let (old, j, reach) = t.pairs a b before after i in
+      let (g, n) = l.pairs.given_up f a b old after j in
+      let elsewhere : l.place f ≢ At who = λ k. cc (g, k) in
+      record {
+        different = l.pairs.different f a b old after j;
+        last = l.pairs.last f a b old after j;
+        place = stays-put who kept l.place f elsewhere ∙ g;
+        channel = other-channel f elsewhere ∙ n;
+        typed = λ y k.
+            let ye : e ≡ y = cc (back, k) in
+            let p : IsPairOf w l.channel old e a b = l.pairs.typed f a b e old after j back in
+            subst (λ y. IsPairOf w channel2 before y a b) ye (record {
+              view = p.view;
+              first = p.first;
+              second = p.second;
+              reached = subst (λ o. TakesAll w (view_in o) before p.view) (sym (new-here e new l.channel)) (reach p.view p.first p.second p.reached p.splits);
+              splits = p.splits;
+              is_first = (p.is_first.0, not-in-pair f a b a old after j (inl refl) ∙ p.is_first.1, p.is_first.2);
+              is_second = (p.is_second.0, not-in-pair f a b b old after j (inr refl) ∙ p.is_second.1, p.is_second.2);
+            });
+      }
+
+  pairs : (z a b : End) (before after : List Message) → owed2 z ≡ before ++ (EndPair a b ∷ after) → IsOldPair source c d l None channel2 z a b before after ⊎ IsGoodPair w d place2 channel2 z a b before after
+  pairs z a b before after i = elim (same-end f z) [
+    | inl k ↦ inr (subst (λ y. IsGoodPair w d place2 channel2 y a b before after) k (partner-pair a b before after (ap owed2 k ∙ i)))
+    | inr m ↦
+        let n : e ≢ z = λ k. t.no_pair a b before after (ap owed2 k ∙ i) in
+        inl (record {
+          owed = sym (t.only z n m) ∙ i;
+          untaken = λ k. cc k;
+          partner = λ y j. (j, ap view_in (new-other e new l.channel y (λ k. m (cc (l.apart.placed.paired.back z y j, t.joined, k)))));
+        })
+  ]
+
+  local : IsLocal source c d l who IsNew None channel2 place2
+  local = record {
+    here = λ v u (i, j). ap d.nodes i ∙ (alone-here c.nodes who (Some s2) ∙ j);
+    others = alone-others c.nodes who (Some s2);
+    whose = whose;
     nodes = l.nodes;
-    listed = λ v x i. elim (from c who s s2 owed2 t.is v x i) [
-      | inl (k, j) ↦ subst (Within l.nodes) k (l.listed who s t.is)
-      | inr (n, k) ↦ l.listed v x k
-    ];
+    listed = alone-listed c d who s (Some s2) t.is whose source l;
     ends = l.ends;
-    joined = λ a j. l.joined a j;
-    has_type = λ p a h. elim (same-end e a) [
-      | inl k ↦ (new, subst (λ z. channel2 z ≡ Some new) k (new-here e new l.channel))
-      | inr n ↦
-          let g : (place2 a ≡ At (Process p)) × IsJoined c a = t.apart.placed.held p a h in
-          let (x, j) = l.has_type p a (l.apart.placed.holder p a g.1 (sym (t.elsewhere a n) ∙ g.0)) in
-          (x, new-other e new l.channel a n ∙ j)
-    ];
-    apart = t.apart;
-    given_up = λ a j i. elim (same-end e a) [
-      | inl k ↦
-          let (r, q) = t.given_up (subst (λ z. place2 z ≡ Gone) (sym k) i) in
-          inr (r, subst (λ z. channel2 z ≡ Some (On r TopBot)) k (new-here e new l.channel ∙ ap Some q))
-      | inr n ↦ elim (l.given_up a j (sym (t.elsewhere a n) ∙ i)) [
-        | inl h ↦ inl (new-other e new l.channel a n ∙ h)
-        | inr h ↦ inr (h.0, new-other e new l.channel a n ∙ h.1)
-      ]
-    ];
-    typed = λ p r i. elim (from c who s s2 owed2 t.is (Process p) (Runs r) i) [
-      | inl (k, j) ↦ t.typed p r k (sym j)
-      | inr (n, k) ↦
-          let old : IsTypedAt w l.channel r = l.typed p r k in
-          let same : held_ends channel2 r.ends ≡ held_ends l.channel r.ends = held-other e new l.channel r.ends (λ y a h q.
-          let pa : l.place a ≡ At (Process p) = (l.apart.placed.held p a (r, y, k, h)).0 in
-          let z : At who ≡ At (Process p) = sym t.stands ∙ (ap l.place q ∙ pa) in
-          n (cc z)) in
-          record { vars = old.vars; bound = old.bound; term = subst (λ h. TermIsWellFormed w old.vars h r.term) (sym same) old.term }
-    ];
+    within = l.joined;
+    paired = l.apart.placed.paired;
+    joined = λ a j n. j;
+    idle = λ a i. t.same.unpaired a i ∙ l.apart.placed.idle a i;
+    named = alone-named c d who s (Some s2) t.is whose l.apart.named (λ a j. j) (λ r j. went-on s r (on-as (Runs r) j));
+    forest = leaving-forest source c l d who kept refl t.same.owes;
+    place = λ a j n m. stays-put who kept l.place a n;
+    channel = λ a j n m. other-channel a n;
+    own = own;
+    at = stands;
+    carrier = λ z a j i. t.same.carried_to z a (l.apart.placed.carrier z a j (was-put who kept l.place a (In z) i (λ k. cc k)));
+    carried = λ z a i. inl (t.same.carried_from z a i, λ n. cc n);
+    gone = gone;
+    nowhere = λ a i. let g : l.place a ≡ Gone = l.apart.placed.nowhere a i in stays-put who kept l.place a (λ k. cc (g, k)) ∙ g;
+    kinds = λ v u (i, j). subst (λ z. IsOfKind z u) (sym i) (of-kind who s u (on-as u j) kind);
+    names = λ v r (i, j). own-names source c l who s r kind t.is (on-as (Runs r) j);
+    once = λ v r x y a (i, j). own-once source c l who s r x y a kind t.is (on-as (Runs r) j);
+    typed = λ v r (i, j). t.typed r (is-next (Runs r) j);
+    types = λ v r x a (i, j). types r x a (on-as (Runs r) j);
+    phases = λ v b (i, j). t.phases b (is-next (Serves b) j);
+    shut = shut;
     agree = agree-pair w c d l.channel channel2 c.partner e f l.apart.placed.paired.back t.joined
         (λ a b pa ea fa. (new-other e new l.channel a ea, t.only a ea fa)) t.fits l.agree;
-    pairs = record {
-      different = λ z a b before after i. let (n, old, j) = was-pair z a b before after i in l.pairs.different z a b old after j;
-      last = λ z a b before after i. let (n, old, j) = was-pair z a b before after i in l.pairs.last z a b old after j;
-      given_up = λ z a b before after i.
-          let (n, old, j) = was-pair z a b before after i in
-          let g = l.pairs.given_up z a b old after j in
-          (t.elsewhere z n ∙ g.0, new-other e new l.channel z n ∙ g.1);
-      typed = pair-typed;
-    };
-    phases = λ n b i. elim (from c who s s2 owed2 t.is (Service n) (Serves b) i) [
-      | inl (k, j) ↦ t.phases n b k (sym j)
-      | inr (h, k) ↦
-          let p : IsInPhase l.channel b = l.phases n b k in
-          record { channel_type = p.channel_type; held = new-other e new l.channel b.end (λ q. t.others n b k h (sym q)) ∙ p.held; same = p.same }
-    ];
+    pairs = pairs;
   }
+
+  pub touched : Lawful source d
+  touched = local-lawful source c d l who IsNew None channel2 place2 local

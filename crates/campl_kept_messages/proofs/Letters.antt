@@ -1,5 +1,5 @@
 -- Messages without ends: sending or taking one leaves the pairs of ends that are owed.
-use Rattle.std.proofs.Common.{◌≡◌, ◌≢◌, true, List, [], ◌∷◌, ◌++◌, inl, inr, refl, sym, ap, subst, Some}
+use Rattle.std.proofs.Common.{◌≡◌, ◌≢◌, true, List, [], ◌∷◌, ◌++◌, inl, inr, refl, sym, ap, subst, Some, None}
 use Rattle.campl_machine.specs.Names.{End, same_end}
 use Rattle.campl_machine.specs.Machine.{sent, taken}
 use Rattle.campl_machine.proofs.Updates.{split}
@@ -9,26 +9,18 @@ use Rattle.campl_meaning.specs.States.{Message, Word, Pick, EndPair}
 use Rattle.campl_meaning.specs.Reductions.{Configuration}
 use Rattle.campl_meaning.specs.Apart.{IsCarried, owes_pair}
 use Rattle.campl_meaning.proofs.Pairs.{carried-left}
-use Rattle.campl_kept_messages.proofs.Stays.{SamePairs}
+
+-- the same pairs of ends are owed
+pub record SamePairs (c : Configuration) (owed2 : End → List Message) : Type 0 where
+  pub unpaired : (z : End) → c.partner z ≡ None → owed2 z ≡ c.owed z
+  pub carried_to : (z e : End) → IsCarried (c.owed z) e → IsCarried (owed2 z) e
+  pub carried_from : (z e : End) → IsCarried (owed2 z) e → IsCarried (c.owed z) e
+  pub owes : (z : End) → owes_pair (owed2 z) ≡ owes_pair (c.owed z)
 
 abbrev pub IsLetter : Message → Type 0
 IsLetter (Word v) = Unit {0}
 IsLetter (Pick n) = Unit {0}
 IsLetter (EndPair e f) = ⊥
-
--- Pairs in lists
-
-pub carried-first : (before after : List Message) (a b : End) → IsCarried (before ++ (EndPair a b ∷ after)) a
-carried-first [] after a b = inl refl
-carried-first (Word v ∷ ms) after a b = carried-first ms after a b
-carried-first (Pick n ∷ ms) after a b = carried-first ms after a b
-carried-first (EndPair e f ∷ ms) after a b = inr (inr (carried-first ms after a b))
-
-pub carried-second : (before after : List Message) (a b : End) → IsCarried (before ++ (EndPair a b ∷ after)) b
-carried-second [] after a b = inr (inl refl)
-carried-second (Word v ∷ ms) after a b = carried-second ms after a b
-carried-second (Pick n ∷ ms) after a b = carried-second ms after a b
-carried-second (EndPair e f ∷ ms) after a b = inr (inr (carried-second ms after a b))
 
 -- A letter behind others
 

@@ -1,42 +1,29 @@
 -- A send appends to what the end owes, and a receipt takes the oldest letter off; both move the end's own type on, and keep a lawful
 -- configuration lawful.
-use Rattle.std.proofs.Common.{◌≡◌, ◌≢◌, ℕ, true, List, ◌∷◌, ◌++◌, refl, sym, ap, subst, ◌∙◌, Option, Some, slice_get}
+use Rattle.std.proofs.Common.{◌≡◌, ◌≢◌, ℕ, true, false, List, ◌∷◌, ◌++◌, sym, ap, subst, ◌∙◌, Option, Some, slice_get}
 use Rattle.campl_tree.specs.declared.service.Side.{Side}
-use Rattle.campl_tree.specs.declared.service.Side.TheVariants.{Input, Output}
 use Rattle.campl_tree.specs.Plain.SeqType.{SeqType}
-use Rattle.campl_tree.specs.Plain.ChanType.{ChanType, Put, Get, Tensor, Par, TopBot, Neg, Named}
+use Rattle.campl_tree.specs.Plain.ChanType.{ChanType, TopBot}
 use Rattle.campl_tree.specs.Plain.Decl.{Program}
 use Rattle.campl_value.specs.Tree.{Tree}
-use Rattle.campl_machine.specs.Names.{Path, End, Who, Process, Service}
+use Rattle.campl_machine.specs.Names.{End, Who}
 use Rattle.campl_machine.specs.Machine.{sent, taken}
 use Rattle.campl_machine.proofs.Ends.{ne}
 use Rattle.campl_types.specs.Names.{Name}
-use Rattle.campl_types.specs.SameType.{bare_chan}
 use Rattle.campl_types.specs.World.{World, world_of}
-use Rattle.campl_types.specs.Polarity.{Puts, Gets, Splits, Picks, Offers, Ends, Choices, deed}
+use Rattle.campl_types.specs.Polarity.{Puts, Gets, Splits, Picks, Offers, Choices, deed}
 use Rattle.campl_types.specs.Views.{View, turned, deed_of}
 use Rattle.campl_types.specs.Held.{Channel, On}
 use Rattle.campl_meaning.specs.States.{Message, Word, Pick, EndPair, Running, Attending, State, Runs, Serves}
 use Rattle.campl_meaning.specs.Reductions.{Configuration}
 use Rattle.campl_meaning.specs.Views.{view_of, view_in, Takes, TakesAll}
-use Rattle.campl_meaning.specs.Apart.{Place, At, Gone, IsApart}
+use Rattle.campl_meaning.specs.Apart.{At, Gone}
 use Rattle.campl_meaning.specs.Lawful.{seen, IsTypedAt, Agree, IsInPhase, Lawful}
 use Rattle.campl_kept_messages.proofs.Takes.{TakesNone, none-taken, send-fits, putter, picker, puts-split-not, picks-split-not, word-given, word-taken, pick-given, pick-taken}
-use Rattle.campl_kept_messages.proofs.Stays.{Continues, gone_on, stays}
+use Rattle.campl_kept_messages.proofs.Continues.{Continues, keeps_ends, gone_on}
 use Rattle.campl_kept_messages.proofs.Letters.{IsLetter, pair-before, sent-here, sent-other, taken-here, taken-other, send-pairs, take-pairs}
-use Rattle.campl_kept_messages.proofs.Frame.{renewed, new-here, new-other, unserved, touched}
+use Rattle.campl_kept_messages.proofs.Frame.{renewed, new-here, new-other, touched}
 use Rattle.campl_types.specs.Values.{IsValue}
-
--- only a type that may be closed is TopBot
-pub top-ends : (w : World) (s : Side) (u : ChanType) → bare_chan u ≡ TopBot → deed w s u ≡ Ends
-top-ends w Input TopBot e = refl
-top-ends w Output TopBot e = refl
-top-ends w s (Put t x) e = absurd (cc e)
-top-ends w s (Get t x) e = absurd (cc e)
-top-ends w s (Tensor x y) e = absurd (cc e)
-top-ends w s (Par x y) e = absurd (cc e)
-top-ends w s (Neg x) e = absurd (cc e)
-top-ends w s (Named at x ts) e = absurd (cc e)
 
 -- the choice with this number
 abbrev pub IsChoice : Choices → ℕ → Name → ChanType → Type 0
@@ -53,13 +40,11 @@ pub record MaySend (w : World) (s : Side) (u : ChanType) (m : Message) (y : Chan
   pub letter : IsLetter m
   pub none : TakesNone w (view_of s u)
   pub no_split : (x z : ChanType) → deed_of w (view_of s u) ≡ Splits x z → ⊥
-  pub not_top : bare_chan u ≢ TopBot
   pub given : Takes w (turned (view_of s u)) m (turned (view_of s y))
 
 -- and one that it may take
 pub record MayTake (w : World) (s : Side) (u : ChanType) (m : Message) (y : ChanType) : Type 0 where
   pub letter : IsLetter m
-  pub not_top : bare_chan u ≢ TopBot
   pub next : (n : View) → Takes w (view_of s u) m n → n ≡ view_of s y
 
 pub may-put : (w : World) (s : Side) (u : ChanType) (t : SeqType) (y : ChanType) (a : Tree) → deed w s u ≡ Puts t y → IsValue w a t → MaySend w s u (Word a) y
@@ -67,7 +52,6 @@ may-put w s u t y a i h = record {
   letter = tt;
   none = putter w s u t y i;
   no_split = puts-split-not w s u t y i;
-  not_top = λ e. cc (top-ends w s u e, i);
   given = word-given w s u t y a i h;
 }
 
@@ -76,7 +60,6 @@ may-pick w s u cs k x y i at = record {
   letter = tt;
   none = picker w s u cs i;
   no_split = picks-split-not w s u cs i;
-  not_top = λ e. cc (top-ends w s u e, i);
   given = pick-given w s u cs k x y i at;
 }
 
@@ -89,8 +72,7 @@ may-get w s u t y m n i h =
       is,
       record {
         letter = subst IsLetter (sym e) tt;
-        not_top = λ e. cc (top-ends w s u e, i);
-        next = λ k g. let (b, j, js, r) = word-taken w s u t y m k i g in r;
+              next = λ k g. let (b, j, js, r) = word-taken w s u t y m k i g in r;
       },
     )
 
@@ -109,8 +91,7 @@ may-offer w s u cs m n i h =
       at,
       record {
         letter = subst IsLetter (sym e) tt;
-        not_top = λ e. cc (top-ends w s u e, i);
-        next = λ o g.
+              next = λ o g.
             let (j, z, v, f, get, r) = pick-taken w s u cs m o i g in
             let kj : j ≡ k = pick-number j k (sym f ∙ e) in
             let vy : v ≡ y = second-of cs k z x v y (subst (λ a. IsChoice cs a z v) kj get) at in
@@ -145,9 +126,6 @@ module _ (source : Program) (c : Configuration) (l : Lawful source c) (who : Who
       let k : At who ≡ Gone = sym stands ∙ g.0 in
       cc k
 
-  not-gone : l.place e ≡ Gone → (t : Side) × (new ≡ On t TopBot)
-  not-gone i = let k : At who ≡ Gone = sym stands ∙ i in absurd (cc k)
-
   module _ (may : MaySend w s u m y) where
     after-send : Agree w (gone_on c who st2 (sent (Some (e, m)) c.owed)) (renewed e new l.channel) e f
     after-send =
@@ -160,19 +138,19 @@ module _ (source : Program) (c : Configuration) (l : Lawful source c) (who : Who
           yours = rw (seen-partner, sent-here c e m) q;
         }
 
-    pub send-lawful : Continues st st2 → ((p : Path) (r : Running) → who ≡ Process p → st2 ≡ Runs r → IsTypedAt w (renewed e new l.channel) r)
-        → ((n : ℕ) (b : Attending) → who ≡ Service n → st2 ≡ Serves b → IsInPhase (renewed e new l.channel) b) → Lawful source (gone_on c who st2 (sent (Some (e, m)) c.owed))
-    send-lawful on typed phases = touched source c l who st st2 e f new (sent (Some (e, m)) c.owed) l.place (record {
+    pub send-lawful : Continues st st2 → (keeps_ends st2 ≡ false → (t : Side) × (new ≡ On t TopBot))
+        → ((r : Running) → st2 ≡ Runs r → IsTypedAt w (renewed e new l.channel) r)
+        → ((b : Attending) → st2 ≡ Serves b → IsInPhase (renewed e new l.channel) b) → Lawful source (gone_on c who st2 (sent (Some (e, m)) c.owed))
+    send-lawful on closed typed phases = touched source c l who st st2 e f new (sent (Some (e, m)) c.owed) (record {
       is = is;
+      on = on;
       stands = stands;
       joined = joined;
-      apart = stays c who st st2 (sent (Some (e, m)) c.owed) is l.place l.apart on (send-pairs c e f m joined may.letter);
-      elsewhere = λ a n. refl;
+      same = send-pairs c e f m joined may.letter;
       only = λ a n k. sent-other c e m a n;
-      given_up = not-gone;
+      closed = closed;
       typed = typed;
       phases = phases;
-      others = unserved source c l who e s u stands ce may.not_top;
       fits = after-send;
       no_pair = λ a b before after i.
           let (rest, j) = pair-before (c.owed e) m before a b after may.letter (sym (sent-here c e m) ∙ i) in
@@ -198,21 +176,19 @@ module _ (source : Program) (c : Configuration) (l : Lawful source c) (who : Who
           yours = rw (seen-partner, taken-other c f e (ne e f apart-f)) a.yours;
         }
 
-    -- where the end may be given up behind it
-    pub take-lawful-at : (place2 : End → Place) → IsApart (gone_on c who st2 (taken true f c.owed)) place2 → ((a : End) → e ≢ a → place2 a ≡ l.place a) → (place2 e ≡ Gone → (t : Side) × (new ≡ On t TopBot))
-        → ((p : Path) (r : Running) → who ≡ Process p → st2 ≡ Runs r → IsTypedAt w (renewed e new l.channel) r)
-        → ((n : ℕ) (b : Attending) → who ≡ Service n → st2 ≡ Serves b → IsInPhase (renewed e new l.channel) b) → Lawful source (gone_on c who st2 (taken true f c.owed))
-    take-lawful-at place2 apart elsewhere given_up typed phases = touched source c l who st st2 e f new (taken true f c.owed) place2 (record {
+    pub take-lawful : Continues st st2 → (keeps_ends st2 ≡ false → (t : Side) × (new ≡ On t TopBot))
+        → ((r : Running) → st2 ≡ Runs r → IsTypedAt w (renewed e new l.channel) r)
+        → ((b : Attending) → st2 ≡ Serves b → IsInPhase (renewed e new l.channel) b) → Lawful source (gone_on c who st2 (taken true f c.owed))
+    take-lawful on closed typed phases = touched source c l who st st2 e f new (taken true f c.owed) (record {
       is = is;
+      on = on;
       stands = stands;
       joined = joined;
-      apart = apart;
-      elsewhere = elsewhere;
+      same = take-pairs c f e m rest (l.apart.placed.paired.back e f joined) first may.letter;
       only = λ a n k. taken-other c f a k;
-      given_up = given_up;
+      closed = closed;
       typed = typed;
       phases = phases;
-      others = unserved source c l who e s u stands ce may.not_top;
       fits = after-take;
       no_pair = λ a b before after i. owes-none a b before after (sym (taken-other c f e (ne e f apart-f)) ∙ i);
       pairs = λ a b before after i. (
@@ -223,8 +199,3 @@ module _ (source : Program) (c : Configuration) (l : Lawful source c) (who : Who
             subst (λ o. TakesAll w o before v) (may.next k.0 k.1) k.2,
       );
     })
-
-    pub take-lawful : Continues st st2 → ((p : Path) (r : Running) → who ≡ Process p → st2 ≡ Runs r → IsTypedAt w (renewed e new l.channel) r)
-        → ((n : ℕ) (b : Attending) → who ≡ Service n → st2 ≡ Serves b → IsInPhase (renewed e new l.channel) b) → Lawful source (gone_on c who st2 (taken true f c.owed))
-    take-lawful on typed phases = take-lawful-at l.place
-        (stays c who st st2 (taken true f c.owed) is l.place l.apart on (take-pairs c f e m rest (l.apart.placed.paired.back e f joined) first may.letter)) (λ a n. refl) not-gone typed phases

@@ -1,18 +1,18 @@
 -- `put`, `get`, `hput` and `hcase` keep a lawful configuration lawful.
-use Rattle.std.proofs.Common.{◌≡◌, ℕ, suc, ◌≤◌, arith, Bool, true, false, List, [], ◌∷◌, inl, inr, refl, sym, ap, subst, ◌∙◌, Option, Some, None, if◌then◌else◌, option_map, eqb-true}
+use Rattle.std.proofs.Common.{◌≡◌, ℕ, suc, arith, Bool, true, false, List, [], ◌∷◌, inl, inr, refl, sym, ap, subst, ◌∙◌, Option, Some, None, if◌then◌else◌, option_map, eqb-true, true≢false}
 use Rattle.campl_tree.specs.declared.place.Place.{Place}
 use Rattle.campl_tree.specs.declared.place.Ident.{Ident}
 use Rattle.campl_tree.specs.declared.process.Binder.{Binder}
 use Rattle.campl_tree.specs.declared.process.Binder.TheVariants as binder
 use Rattle.campl_tree.specs.declared.service.Side.{Side}
 use Rattle.campl_tree.specs.Plain.SeqType.{SeqType}
-use Rattle.campl_tree.specs.Plain.ChanType.{ChanType}
+use Rattle.campl_tree.specs.Plain.ChanType.{ChanType, TopBot}
 use Rattle.campl_tree.specs.Plain.Expr.{Expr}
 use Rattle.campl_tree.specs.Plain.Process as b
 use Rattle.campl_tree.specs.Plain.Process.{Body, HcaseRows}
 use Rattle.campl_tree.specs.Plain.Decl.{Program}
 use Rattle.campl_value.specs.Tree.{Tree}
-use Rattle.campl_machine.specs.Names.{Path, End, Process, Service}
+use Rattle.campl_machine.specs.Names.{Path, End, Process}
 use Rattle.campl_machine.specs.Machine.{Looks, Does, taken}
 use Rattle.campl_types.specs.Names.{Name, found}
 use Rattle.campl_types.specs.Fits.{Vars}
@@ -22,7 +22,7 @@ use Rattle.campl_types.specs.Polarity.{Choices}
 use Rattle.campl_types.specs.Held.{Channel, On, Held, with}
 use Rattle.campl_types.specs.Linear.{bound, IsWellFormed, RowsAreWellFormed}
 use Rattle.campl_types.specs.Views.{View}
-use Rattle.campl_evaluation.specs.Evaluation.{Answer, Done, Deep, Wrong, More, value_of}
+use Rattle.campl_evaluation.specs.Evaluation.{Answer, Done, value_of}
 use Rattle.campl_evaluation.specs.Typed.{AreBound, Fine}
 use Rattle.campl_evaluation.proofs.Declared.{typed-world}
 use Rattle.campl_evaluation.proofs.Sources.{filled-nothing, put-fine}
@@ -31,13 +31,14 @@ use Rattle.campl_peel.specs.Trees.{PlugsAreTrees, RowsHaveTrees}
 use Rattle.campl_meaning.specs.States as k
 use Rattle.campl_meaning.specs.States.{Message, Word, Pick, EndPair, Ends, Running, Attending, State, Runs, Serves, Kind, Command}
 use Rattle.campl_meaning.specs.Bodies.{bind}
-use Rattle.campl_meaning.specs.Wants.{onward, spends, quiet, sends, with_found, with_answer, next_command, term_command, on_word, on_pick}
+use Rattle.campl_meaning.specs.Wants.{onward, sends, with_found, with_answer, next_command, term_command, on_word, on_pick}
 use Rattle.campl_meaning.specs.Reductions.{Configuration, act_of}
 use Rattle.campl_meaning.specs.Views.{view_of, view_in, Takes, TakesAll}
-use Rattle.campl_meaning.specs.Apart.{At, IsJoined, IsApart}
+use Rattle.campl_meaning.specs.Apart.{At, IsJoined}
 use Rattle.campl_meaning.specs.Lawful.{Channels, seen, IsTypedAt, Agree, Lawful}
-use Rattle.campl_machine.specs.Progress.{Within}
-use Rattle.campl_kept_messages.proofs.Stays.{gone_on, from, stays}
+use Rattle.campl_kept_quiet.proofs.Acts.{found-does, answer-does}
+use Rattle.campl_kept_quiet.proofs.Steps.{works}
+use Rattle.campl_kept_messages.proofs.Continues.{gone_on}
 use Rattle.campl_kept_messages.proofs.Frame.{renewed, held-here}
 use Rattle.campl_kept_messages.proofs.Passing.{MayTake, second-of, may-put, may-pick, may-get, may-offer, send-lawful, take-lawful}
 use Rattle.campl_types.specs.Values.{IsValue}
@@ -47,6 +48,10 @@ use Rattle.campl_types.proofs.Choices.{choices-of, numbered-choice}
 -- what is held under a name is the channel of the end there
 pub held-found : (channel : Channels) (es : Ends) (x : Name) (e : End) → found x es ≡ Some e → held_ends channel es x ≡ channel e
 held-found channel es x e h = rw h refl
+
+-- a process isn't closed
+not-closed : (new : Channel) → true ≡ false → (t : Side) × (new ≡ On t TopBot)
+not-closed new o = absurd (true≢false o)
 
 -- a value under a binder
 bind-bound : (w : World) (v : Binder) (a : Tree) (t : SeqType) (bs : Bindings) (vs : Vars) → IsValue w a t → AreBound w [] bs vs → AreBound w [] (bind v a bs) (bound v t vs)
@@ -78,49 +83,6 @@ module _ (source : Program) (c : Configuration) (l : Lawful source c) (p : Path)
   pub typed-now : IsTypedAt w l.channel r
   typed-now = l.typed p r is
 
-  apart-now : (r2 : Running) → r2.ends ≡ r.ends → r.steps ≤ r2.steps → IsApart (gone_on c (Process p) (Runs r2) c.owed) l.place
-  apart-now r2 ends more = stays c (Process p) (Runs r) (Runs r2) c.owed is l.place l.apart (ends, more) (record {
-    unpaired = λ z i. refl;
-    carried_to = λ z e h. h;
-    carried_from = λ z e h. h;
-    owes = λ z. refl;
-  })
-
-  -- it goes on with the same ends, and nothing is sent or taken
-  pub quiet-lawful : (r2 : Running) → r2.ends ≡ r.ends → r.steps ≤ r2.steps → IsTypedAt w l.channel r2 → Lawful source (gone_on c (Process p) (Runs r2) c.owed)
-  quiet-lawful r2 ends more typed = record {
-    accepted = l.accepted;
-    channel = l.channel;
-    place = l.place;
-    nodes = l.nodes;
-    listed = λ v x i. elim (from c (Process p) (Runs r) (Runs r2) c.owed is v x i) [
-      | inl (k, j) ↦ subst (Within l.nodes) k (l.listed (Process p) (Runs r) is)
-      | inr (n, k) ↦ l.listed v x k
-    ];
-    ends = l.ends;
-    joined = λ a j. l.joined a j;
-    has_type = λ q a h. let g : (l.place a ≡ At (Process q)) × IsJoined c a = (apart-now r2 ends more).placed.held q a h in l.has_type q a (l.apart.placed.holder q a g.1 g.0);
-    apart = apart-now r2 ends more;
-    given_up = l.given_up;
-    typed = λ q o i. elim (from c (Process p) (Runs r) (Runs r2) c.owed is (Process q) (Runs o) i) [
-      | inl (k, j) ↦ let same : r2 ≡ o = cc j in subst (IsTypedAt w l.channel) same typed
-      | inr (n, k) ↦ l.typed q o k
-    ];
-    agree = λ e f i. let a : Agree w c l.channel e f = l.agree e f i in record { left = a.left; mine = a.mine; yours = a.yours };
-    pairs = record { different = l.pairs.different; last = l.pairs.last; given_up = l.pairs.given_up; typed = l.pairs.typed };
-    phases = λ n b i. elim (from c (Process p) (Runs r) (Runs r2) c.owed is (Service n) (Serves b) i) [
-      | inl (k, j) ↦ absurd (cc k)
-      | inr (h, k) ↦ l.phases n b k
-    ];
-  }
-
-  work-typed : IsTypedAt w l.channel (record { term = r.term; variables = r.variables; ends = r.ends; steps = suc r.steps; spent = suc r.spent })
-  work-typed = record { vars = typed-now.vars; bound = typed-now.bound; term = typed-now.term }
-
-  -- one more call is spent
-  pub work-lawful : (d : Configuration) → Does c (Process p) (quiet (spends r)) d → Lawful source d
-  work-lawful d e = subst (Lawful source) (sym e) (quiet-lawful _ refl (omega arith) work-typed)
-
   -- where the end e stands under the name x
   module _ (x : Name) (e : End) (he : found x r.ends ≡ Some e) where
     pub stands : (l.place e ≡ At (Process p)) × IsJoined c e
@@ -131,8 +93,8 @@ module _ (source : Program) (c : Configuration) (l : Lawful source c) (p : Path)
 
     -- what it then holds
     typed-on : (new : Channel) (vs : Vars) (bs : Bindings) (body : Body) → AreBound w [] bs vs → IsWellFormed w vs (with x (Some new) (held_ends l.channel r.ends)) body → PlugsAreTrees body
-        → (q : Path) (o : Running) → Process p ≡ Process q → onward r (Doing body) bs r.ends ≡ Runs o → IsTypedAt w (renewed e new l.channel) o
-    typed-on new vs bs body bound well trees q o k j =
+        → (o : Running) → onward r (Doing body) bs r.ends ≡ Runs o → IsTypedAt w (renewed e new l.channel) o
+    typed-on new vs bs body bound well trees o j =
         let same : record { term = Doing body; variables = bs; ends = r.ends; steps = suc r.steps; spent = 0 } ≡ o = cc j in
         subst (IsTypedAt w (renewed e new l.channel)) same (record {
           vars = vs;
@@ -149,15 +111,14 @@ module _ (source : Program) (c : Configuration) (l : Lawful source c) (p : Path)
 
   module _ (d : Configuration) where
     on-found : {A : Type 0} (kind : Kind) (o : Option A) (F : A → Command) → ((a : A) → o ≡ Some a → Does c (Process p) (F a).act d → Lawful source d) → Does c (Process p) (with_found kind o F).act d → Lawful source d
-    on-found kind None F h e = absurd e
-    on-found kind (Some a) F h e = h a refl e
+    on-found kind o F h e = let (a, i, k) = found-does c p r d kind o F e in h a i k
 
     on-answer : {A : Type 0} (kind : Kind) (end : Option End) (o : Answer A) (F : A → Command) → ((a : A) (n : ℕ) → o ≡ Done a n → Does c (Process p) (F a).act d → Lawful source d)
         → Does c (Process p) (with_answer r kind end o F).act d → Lawful source d
-    on-answer kind end (Done a n) F h e = h a n refl e
-    on-answer kind end (Deep n) F h e = absurd e
-    on-answer kind end (Wrong n) F h e = absurd e
-    on-answer kind end More F h e = work-lawful d e
+    on-answer kind end o F h e = elim (answer-does c p r d kind end o F e) [
+      | inl (a, n, i, k) ↦ h a n i k
+      | inr g ↦ subst (Lawful source) (sym g) (works source c p r l is)
+    ]
 
     command : (i : ℕ) (body : Body) → r.term ≡ Doing body → Does c (Process p) (act_of w (Process p) (Runs r) i) d → Does c (Process p) (next_command w p r i body).act d
     command i body e = subst (λ t. Does c (Process p) (act_of w (Process p) (Runs r) i) d → Does c (Process p) (term_command w p r i t).act d) e (λ h. h)
@@ -174,7 +135,7 @@ module _ (source : Program) (c : Configuration) (l : Lawful source c) (p : Path)
             let fine : IsValue w v t = subst (Fine (λ v. IsValue w v t)) hv (put-fine w (typed-world source l.accepted.typed) _ typed-now.vars a t r.variables r.spent typed-now.bound has) in
             subst (Lawful source) (sym is_sent)
             (send-lawful source c l (Process p) (Runs r) (onward r (Doing rest) r.variables r.ends) e f s u y (Word v) is stood joined (channel-of x.name e he (On s u) hx) (may-put w s u t y v puts fine)
-            (refl, omega arith) (typed-on x.name e he (On s y) typed-now.vars r.variables rest typed-now.bound well trees) (λ n b k. absurd (cc k)))
+            (refl, omega arith) (not-closed (On s y)) (typed-on x.name e he (On s y) typed-now.vars r.variables rest typed-now.bound well trees) (λ b k. absurd (cc k)))
 
     pub hput-lawful : (i : ℕ) (at : Place) (q : Ident) (x : Ident) (rest : Body) → r.term ≡ Doing (b.Then (b.Hput at q x) rest)
         → Does c (Process p) (act_of w (Process p) (Runs r) i) d → Lawful source d
@@ -188,7 +149,7 @@ module _ (source : Program) (c : Configuration) (l : Lawful source c) (p : Path)
             let (z, choice) = numbered-choice w (protocols-are-known source l.accepted.typed.declared) (coprotocols-are-known source l.accepted.typed.declared) cs (choices-of w s u cs (inl picks)) q.name y n named number in
             subst (Lawful source) (sym is_sent)
             (send-lawful source c l (Process p) (Runs r) (onward r (Doing rest) r.variables r.ends) e f s u y (Pick n) is stood joined (channel-of x.name e he (On s u) hx) (may-pick w s u cs n z y picks choice)
-            (refl, omega arith) (typed-on x.name e he (On s y) typed-now.vars r.variables rest typed-now.bound well trees) (λ n b k. absurd (cc k)))
+            (refl, omega arith) (not-closed (On s y)) (typed-on x.name e he (On s y) typed-now.vars r.variables rest typed-now.bound well trees) (λ b k. absurd (cc k)))
 
     -- the oldest message is one that the view takes
     pub first-taken : (e z : End) (s : Side) (u : ChanType) (m : Message) (ms : List Message) → l.channel e ≡ Some (On s u) → c.partner e ≡ Some z → c.owed z ≡ m ∷ ms → (n : View) × Takes w (view_of s u) m n
@@ -211,8 +172,8 @@ module _ (source : Program) (c : Configuration) (l : Lawful source c) (p : Path)
             let same : onward r (Doing rest) (bind v a r.variables) r.ends ≡ st = cc went in
             let lawful : Lawful source (gone_on c (Process p) (onward r (Doing rest) (bind v a r.variables) r.ends) (taken true z c.owed)) =
             take-lawful source c l (Process p) (Runs r) (onward r (Doing rest) (bind v a r.variables) r.ends) e z s u y m is (stands x.name e he).0 pz ce ms first may
-            (refl, omega arith)
-            (typed-on x.name e he (On s y) (bound v t typed-now.vars) (bind v a r.variables) rest (bind-bound w v a t r.variables typed-now.vars value typed-now.bound) well trees) (λ n b k. absurd (cc k)) in
+            (refl, omega arith) (not-closed (On s y))
+            (typed-on x.name e he (On s y) (bound v t typed-now.vars) (bind v a r.variables) rest (bind-bound w v a t r.variables typed-now.vars value typed-now.bound) well trees) (λ b k. absurd (cc k)) in
             subst (Lawful source) (sym looked) (subst (λ t. Lawful source (gone_on c (Process p) t (taken true z c.owed))) same lawful)
 
     pub hcase-lawful : (i : ℕ) (at : Place) (x : Ident) (rows : HcaseRows) → r.term ≡ Doing (b.Hcase at x rows) → Does c (Process p) (act_of w (Process p) (Runs r) i) d → Lawful source d
@@ -238,6 +199,6 @@ module _ (source : Program) (c : Configuration) (l : Lawful source c) (p : Path)
             let may2 : MayTake w s u m y2 = subst (MayTake w s u m) (second-of cs j name z2 y y2 choice choice2) may in
             let lawful : Lawful source (gone_on c (Process p) (onward r (Doing body) r.variables r.ends) (taken true z c.owed)) =
             take-lawful source c l (Process p) (Runs r) (onward r (Doing body) r.variables r.ends) e z s u y2 m is (stands x.name e he).0 pz ce ms first may2
-            (refl, omega arith)
-            (typed-on x.name e he (On s y2) typed-now.vars r.variables body typed-now.bound well tree) (λ n b k. absurd (cc k)) in
+            (refl, omega arith) (not-closed (On s y2))
+            (typed-on x.name e he (On s y2) typed-now.vars r.variables body typed-now.bound well tree) (λ b k. absurd (cc k)) in
             subst (Lawful source) (sym looked) (subst (λ t. Lawful source (gone_on c (Process p) t (taken true z c.owed))) same lawful)

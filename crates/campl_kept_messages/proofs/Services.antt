@@ -1,5 +1,5 @@
 -- The steps of services keep a lawful configuration lawful: a service's phase and the type of its end go on together.
-use Rattle.std.proofs.Common.{◌≡◌, ◌≢◌, ℕ, zero, suc, true, false, List, [], ◌∷◌, inl, inr, refl, sym, ap, subst, ◌∙◌, Option, Some, None, option_map}
+use Rattle.std.proofs.Common.{◌≡◌, ◌≢◌, ℕ, zero, suc, true, false, List, [], ◌∷◌, refl, sym, ap, subst, ◌∙◌, Option, Some, None, option_map, true≢false}
 use Rattle.std.specs.Prelude.{codes}
 use Rattle.campl_tree.specs.declared.service.Side.{Side}
 use Rattle.campl_tree.specs.Plain.ChanType.{ChanType, Put, Get, TopBot}
@@ -31,13 +31,11 @@ use Rattle.campl_meaning.specs.States.{Message, Word, Pick, Attending, State, Se
 use Rattle.campl_meaning.specs.Wants.{heard, served, hears, says, serving_command}
 use Rattle.campl_meaning.specs.Reductions.{Configuration, act_of}
 use Rattle.campl_meaning.specs.Views.{view_of, view_in, Takes, TakesAll}
-use Rattle.campl_meaning.specs.Apart.{At, Gone, IsJoined, owes_pair}
+use Rattle.campl_meaning.specs.Apart.{At, IsJoined}
 use Rattle.campl_meaning.specs.Lawful.{seen, Agree, IsInPhase, own_chan, taking, sending, service_side, phase_type, Lawful}
-use Rattle.campl_kept_messages.proofs.Stays.{gone_on, given_up_at, other-place, closes}
-use Rattle.campl_meaning.proofs.Pairs.{pair-or-none}
-use Rattle.campl_kept_messages.proofs.Letters.{take-pairs}
+use Rattle.campl_kept_messages.proofs.Continues.{is_open, gone_on}
 use Rattle.campl_kept_messages.proofs.Frame.{renewed, new-here}
-use Rattle.campl_kept_messages.proofs.Passing.{MaySend, MayTake, IsChoice, may-put, may-get, may-offer, send-lawful, take-lawful, take-lawful-at}
+use Rattle.campl_kept_messages.proofs.Passing.{MaySend, MayTake, IsChoice, may-put, may-get, may-offer, send-lawful, take-lawful}
 use Rattle.campl_types.specs.Values.{IsValue}
 
 -- What may be sent and taken doesn't depend on places
@@ -45,7 +43,6 @@ use Rattle.campl_types.specs.Values.{IsValue}
 pub take-same : (w : World) (r : Side) (u x : ChanType) (m : Message) (y : ChanType) → bare_chan u ≡ bare_chan x → MayTake w r x m y → MayTake w r u m y
 take-same w r u x m y e may = record {
   letter = may.letter;
-  not_top = λ i. may.not_top (sym e ∙ i);
   next = λ n t. may.next n (subst (λ z. Takes w (v.view_of r z) m n) e t);
 }
 
@@ -54,7 +51,6 @@ send-same w r u x m y e may = record {
   letter = may.letter;
   none = λ k n t. may.none k n (subst (λ z. Takes w (v.view_of r z) k n) e t);
   no_split = λ a b t. may.no_split a b (ap (λ z. deed_of w (v.view_of r z)) (sym e) ∙ t);
-  not_top = λ i. may.not_top (sym e ∙ i);
   given = subst (λ z. Takes w (turned (v.view_of r z)) m (turned (view_of r y))) (sym e) may.given;
 }
 
@@ -77,6 +73,13 @@ service-gets w Terminal = refl
 pub service-puts : (w : World) (kind : ServiceKind) → deed w (service_side kind) (sending kind) ≡ Puts letters (own_chan kind)
 service-puts w Console = refl
 service-puts w Terminal = refl
+
+-- a closed service's end may only be closed
+closed-top : (kind : ServiceKind) (ph : Phase) → is_open ph ≡ false → phase_type kind ph ≡ TopBot
+closed-top kind phase.Closed o = refl
+closed-top kind phase.Pick o = absurd (true≢false o)
+closed-top kind phase.Text o = absurd (true≢false o)
+closed-top kind phase.Send o = absurd (true≢false o)
 
 -- the phase behind a constructor
 abbrev pub phase_after : Request → Phase
@@ -155,38 +158,17 @@ module _ (source : Program) (c : Configuration) (l : Lawful source c) (n : ℕ) 
     }
 
     phases-on : (serving : Serving) (y : ChanType) → serving.kind ≡ kind → y ≡ phase_type kind serving.phase
-        → (j : ℕ) (b : Attending) → Service n ≡ Service j → Serves (record { end = a.end; serving = serving }) ≡ Serves b → IsInPhase (renewed a.end (On side y) l.channel) b
-    phases-on serving y k e j b i q =
+        → (b : Attending) → Serves (record { end = a.end; serving = serving }) ≡ Serves b → IsInPhase (renewed a.end (On side y) l.channel) b
+    phases-on serving y k e b q =
         let same : record { end = a.end; serving = serving } ≡ b = cc q in
         subst (IsInPhase (renewed a.end (On side y) l.channel)) same (next-phase serving y k e)
 
-    -- it takes a letter and goes on in another phase than the last
-    goes-on : (z : End) (m : Message) (ms : List Message) (serving : Serving) (y : ChanType) → serving.kind ≡ kind → y ≡ phase_type kind serving.phase → serving.phase ≢ phase.Closed
+    -- it takes a letter and goes on in another phase
+    goes-on : (z : End) (m : Message) (ms : List Message) (serving : Serving) (y : ChanType) → serving.kind ≡ kind → y ≡ phase_type kind serving.phase
         → c.partner a.end ≡ Some z → c.owed z ≡ m ∷ ms → MayTake w side own m y → Lawful source (gone_on c (Service n) (Serves (record { end = a.end; serving = serving })) (taken true z c.owed))
-    goes-on z m ms serving y k e on pz first may =
-        take-lawful source c l (Service n) (Serves a) (Serves (record { end = a.end; serving = serving })) a.end z side own y m is stands.0 pz now.held ms first may (refl, busy, on)
-        (λ p r j. absurd (cc j)) (phases-on serving y k e)
-
-    -- and is closed
-    no-pair : owes_pair (c.owed a.end) ≡ false
-    no-pair = elim (pair-or-none (c.owed a.end)) [
-      | inl i ↦ i
-      | inr h ↦
-          let g = l.pairs.given_up a.end h.one h.other h.before h.after h.is in
-          let k : At (Service n) ≡ Gone = sym stands.0 ∙ g.0 in
-          absurd (cc k)
-    ]
-
-    ends : (z : End) (m : Message) (ms : List Message) (serving : Serving) → serving.kind ≡ kind → serving.phase ≡ phase.Closed
-        → c.partner a.end ≡ Some z → c.owed z ≡ m ∷ ms → MayTake w side own m TopBot → Lawful source (gone_on c (Service n) (Serves (record { end = a.end; serving = serving })) (taken true z c.owed))
-    ends z m ms serving k shut pz first may =
-        let back : c.partner z ≡ Some a.end = l.apart.placed.paired.back a.end z pz in
-        take-lawful-at source c l (Service n) (Serves a) (Serves (record { end = a.end; serving = serving })) a.end z side own TopBot m is stands.0 pz now.held ms first may
-        (given_up_at c n a (record { end = a.end; serving = serving }) (taken true z c.owed) is l.place l.apart (take-pairs c z a.end m ms back first may.letter) busy shut refl no-pair)
-        (closes c n a (record { end = a.end; serving = serving }) (taken true z c.owed) is l.place l.apart (take-pairs c z a.end m ms back first may.letter) busy shut refl no-pair)
-        (λ e h. other-place c n a (record { end = a.end; serving = serving }) (taken true z c.owed) is l.place l.apart (take-pairs c z a.end m ms back first may.letter) busy shut refl no-pair e h)
-        (λ i. (side, refl))
-        (λ p r j. absurd (cc j)) (phases-on serving TopBot k (ap (phase_type kind) (sym shut)))
+    goes-on z m ms serving y k e pz first may =
+        take-lawful source c l (Service n) (Serves a) (Serves (record { end = a.end; serving = serving })) a.end z side own y m is stands.0 pz now.held ms first may (refl, busy)
+        (λ o. (side, ap (On side) (e ∙ closed-top kind serving.phase o))) (λ r j. absurd (cc j)) (phases-on serving y k e)
 
   -- the same action leads to the same
   same-act : (o p : Option Action) (st : State) → o ≡ p → option_map (served a.end) o ≡ Some st → option_map (served a.end) p ≡ Some st
@@ -194,10 +176,10 @@ module _ (source : Program) (c : Configuration) (l : Lawful source c) (n : ℕ) 
 
   module _ (d : Configuration) where
     -- after a receipt
-    took-on : (z : End) (m : Message) (ms : List Message) (serving : Serving) (y : ChanType) (st : State) → a.serving.phase ≢ phase.Closed → serving.kind ≡ kind → y ≡ phase_type kind serving.phase → serving.phase ≢ phase.Closed
+    took-on : (z : End) (m : Message) (ms : List Message) (serving : Serving) (y : ChanType) (st : State) → a.serving.phase ≢ phase.Closed → serving.kind ≡ kind → y ≡ phase_type kind serving.phase
         → c.partner a.end ≡ Some z → c.owed z ≡ m ∷ ms → MayTake w side own m y → Serves (record { end = a.end; serving = serving }) ≡ st → d ≡ looked c (Service n) true z st → Lawful source d
-    took-on z m ms serving y st busy k e on pz first may same is_looked =
-        subst (Lawful source) (sym is_looked) (subst (λ t. Lawful source (gone_on c (Service n) t (taken true z c.owed))) same (goes-on busy z m ms serving y k e on pz first may))
+    took-on z m ms serving y st busy k e pz first may same is_looked =
+        subst (Lawful source) (sym is_looked) (subst (λ t. Lawful source (gone_on c (Service n) t (taken true z c.owed))) same (goes-on busy z m ms serving y k e pz first may))
 
     pub pick-lawful : a.serving.phase ≡ phase.Pick → Does c (Service n) (Looks true a.end (hears a)) d → Lawful source d
     pick-lawful ph (z, m, ms, st, pz, first, fits, is_looked) =
@@ -210,12 +192,9 @@ module _ (source : Program) (c : Configuration) (l : Lawful source c) (n : ℕ) 
         go q y type (take-same w side own (own_chan kind) m y e may) (same-act (action a.serving (Some (heard m))) (asked a.serving (Some q)) st given fits) busy
       where
         go : (q : Request) (y : ChanType) → y ≡ phase_type kind (phase_after q) → MayTake w side own m y → option_map (served a.end) (asked a.serving (Some q)) ≡ Some st → a.serving.phase ≢ phase.Closed → Lawful source d
-        go request.Put y e may i busy = took-on z m ms (in_phase phase.Text a.serving) y st busy refl e (λ j. cc j) pz first may (cc i) is_looked
-        go request.Get y e may i busy = took-on z m ms (in_phase phase.Send a.serving) y st busy refl e (λ j. cc j) pz first may (cc i) is_looked
-        go request.Close y e may i busy =
-            let same : Serves (record { end = a.end; serving = in_phase phase.Closed (noting Closed a.serving) }) ≡ st = cc i in
-            subst (Lawful source) (sym is_looked) (subst (λ t. Lawful source (gone_on c (Service n) t (taken true z c.owed))) same
-            (ends busy z m ms (in_phase phase.Closed (noting Closed a.serving)) refl refl pz first (subst (MayTake w side own m) e may)))
+        go request.Put y e may i busy = took-on z m ms (in_phase phase.Text a.serving) y st busy refl e pz first may (cc i) is_looked
+        go request.Get y e may i busy = took-on z m ms (in_phase phase.Send a.serving) y st busy refl e pz first may (cc i) is_looked
+        go request.Close y e may i busy = took-on z m ms (in_phase phase.Closed (noting Closed a.serving)) y st busy refl e pz first may (cc i) is_looked
 
     pub text-lawful : a.serving.phase ≡ phase.Text → Does c (Service n) (Looks true a.end (hears a)) d → Lawful source d
     text-lawful ph (z, m, ms, st, pz, first, fits, is_looked) =
@@ -228,7 +207,7 @@ module _ (source : Program) (c : Configuration) (l : Lawful source c) (n : ℕ) 
       where
         go : (o : Option (List ℕ)) → MayTake w side own m (own_chan kind) → option_map (served a.end) (took a.serving o) ≡ Some st → a.serving.phase ≢ phase.Closed → Lawful source d
         go None may i busy = absurd (cc i)
-        go (Some cs) may i busy = took-on z m ms (in_phase phase.Pick (noting (Took cs) a.serving)) (own_chan kind) st busy refl refl (λ j. cc j) pz first may (cc i) is_looked
+        go (Some cs) may i busy = took-on z m ms (in_phase phase.Pick (noting (Took cs) a.serving)) (own_chan kind) st busy refl refl pz first may (cc i) is_looked
 
     pub line-lawful : (line : List ℕ) (lines : Lines) → a.serving.phase ≡ phase.Send → a.serving.script ≡ line ∷ lines → Does c (Service n) (says a.end (action a.serving None)) d → Lawful source d
     line-lawful line lines ph script does =
@@ -242,7 +221,7 @@ module _ (source : Program) (c : Configuration) (l : Lawful source c) (n : ℕ) 
         send-same w side own (sending kind) (Word (text_of line)) (own_chan kind) (in-phase phase.Send ph) (may-put w side (sending kind) letters (own_chan kind) (text_of line) (service-puts w kind) (text-is w line)) in
         subst (Lawful source) (sym is_sent)
         (send-lawful source c l (Service n) (Serves a) (Serves (record { end = a.end; serving = serving })) a.end f side own (own_chan kind) (Word (text_of line)) is stood joined now.held may
-        (refl, busy, λ j. cc j) (λ p r j. absurd (cc j)) (phases-on busy serving (own_chan kind) refl refl))
+        (refl, busy) (λ o. absurd (true≢false o)) (λ r j. absurd (cc j)) (phases-on busy serving (own_chan kind) refl refl))
 
     in-each : (ph : Phase) (lines : Lines) → a.serving.phase ≡ ph → a.serving.script ≡ lines → Does c (Service n) (serving_command a (want_in ph lines)).act d → Lawful source d
     in-each phase.Pick lines i j does = pick-lawful i does

@@ -1,7 +1,7 @@
--- Lists of ends: some kept, and one more.
-use Rattle.std.proofs.Common.{◌≡◌, ◌≢◌, ◌⊎◌, ◌∙◌, inl, inr, refl, sym, ap, subst, Bool, true, false, ◌||◌, not, true≢false, IsTrue, List, [], ◌∷◌, Some, None, if◌then◌else◌}
+-- Lists of ends: what stands in them, some kept, and one more.
+use Rattle.std.proofs.Common.{◌≡◌, ◌≢◌, ◌⊎◌, ◌∙◌, inl, inr, refl, sym, ap, subst, Bool, true, false, ◌||◌, not, true≢false, IsTrue, List, [], ◌∷◌, Option, Some, None, if◌then◌else◌}
 use Rattle.campl_machine.specs.Names.{End, same_end}
-use Rattle.campl_machine.proofs.Same.{same_end-is}
+use Rattle.campl_machine.proofs.Same.{same_end-is, same_end-refl}
 use Rattle.campl_machine.proofs.Updates.{split}
 use Rattle.campl_types.specs.Names.{Name, same_name, is_among, are_distinct, found}
 use Rattle.campl_types.proofs.Names.{same-is, same-itself}
@@ -9,10 +9,48 @@ use Rattle.campl_peel.specs.Terms.{those}
 use Rattle.campl_meaning.specs.States.{Ends}
 use Rattle.campl_meaning.specs.Bodies.{without_end}
 use Rattle.campl_meaning.specs.Apart.{end_names}
+use Rattle.campl_meaning.proofs.Holding.{found-named}
 use Rattle.campl_peel.proofs.Terms.{found-those}
 use Rattle.campl_types.proofs.Truth.{or-first, or-second, or-split, not-true}
 use Rattle.campl_peel.proofs.Standing.{and-both}
-use Rattle.campl_kept_births.proofs.Frame.{lists, some-is, lists-found}
+
+-- whether an end stands in a list
+abbrev pub lists : End → Ends → Bool
+lists e [] = false
+lists e (x ∷ xs) = same_end e x.1 || lists e xs
+
+pub some-is : {A : Type 0} (x y : A) → ◌≡◌ {A = Option A} (Some x) (Some y) → x ≡ y
+some-is x y e = cc e
+
+-- what is found stands there
+pub lists-found : (e : End) (es : Ends) (x : Name) → found x es ≡ Some e → lists e es ≡ true
+lists-found e [] x i = absurd (cc i)
+lists-found e (y ∷ es) x i = elim (split (same_name x y.0)) [
+  | inl s ↦
+      let j : Some y.1 ≡ Some e = rw s at i in
+      or-first (same_end e y.1) (lists e es) (subst (λ z. same_end e z ≡ true) (sym (some-is y.1 e j)) (same_end-refl e))
+  | inr s ↦ let j : found x es ≡ Some e = rw s at i in or-second (same_end e y.1) (lists e es) (lists-found e es x j)
+]
+
+-- and what stands there is found, where names differ
+pub found-listed : (e : End) (es : Ends) → IsTrue (are_distinct (end_names es)) → lists e es ≡ true → (x : Name) × (found x es ≡ Some e)
+found-listed e [] d i = absurd (true≢false (sym i))
+found-listed e (y ∷ es) d i = elim (split (same_end e y.1)) [
+  | inl s ↦ (y.0, rw (same-itself y.0) (ap Some (sym (same_end-is e y.1 s))))
+  | inr s ↦
+      let b : (not (is_among y.0 (end_names es)) ≡ true) × (are_distinct (end_names es) ≡ true) = and-both (not (is_among y.0 (end_names es))) (are_distinct (end_names es)) d in
+      let j : lists e es ≡ true = rw s at i in
+      let (x, f) = found-listed e es b.1 j in
+      (x, later x f b.0)
+]
+  where
+    later : (x : Name) → found x es ≡ Some e → not (is_among y.0 (end_names es)) ≡ true → found x (y ∷ es) ≡ Some e
+    later x f n = elim (split (same_name x y.0)) [
+      | inl s ↦
+          let a : is_among y.0 (end_names es) ≡ true = subst (λ z. is_among z (end_names es) ≡ true) (same-is x y.0 s) (found-named x es e f) in
+          absurd (true≢false (sym a ∙ not-true (is_among y.0 (end_names es)) n))
+      | inr s ↦ rw s f
+    ]
 
 -- names differ, and so do ends
 pub record IsTidy (es : Ends) : Type 0 where
