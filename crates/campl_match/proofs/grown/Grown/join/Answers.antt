@@ -1,0 +1,4 @@
+use Rattle.campl_match.proofs.grown.Grown.join.Goals as goal
+
+pub returns : goal.returns
+returns c = ?
