@@ -213,12 +213,12 @@ row-whole w n i ps r e k =
     ∙ ap (λ ss. record { number = i; tests = flat_tests w n (list_of fs); spots = ss }) (parts-spots 0 fs)
 
 -- and where there aren't
-pub row-never : (w : World) (n i : ℕ) (ps : List Pattern) (r new : Flat) → r ≡ with_parts w [] 0 (patterns (map view_pattern ps)) (record { number = i; tests = []; spots = [] }) → (length ps ≡ n → ⊥)
-    → new ≡ record r { tests = never ∷ [] } → new ≡ flat_row w n i (list_of (part_forms (patterns (map view_pattern ps))))
+pub row-never : (w : World) (n i : ℕ) (ps : List Pattern) (r : Flat) → r ≡ with_parts w [] 0 (patterns (map view_pattern ps)) (record { number = i; tests = []; spots = [] }) → (length ps ≡ n → ⊥)
+    → record r { tests = never ∷ [] } ≡ flat_row w n i (list_of (part_forms (patterns (map view_pattern ps))))
 unfolding with_parts
-row-never w n i ps r new e k is =
+row-never w n i ps r e k =
     let fs = part_forms (patterns (map view_pattern ps)) in
-    is ∙ ap (λ (x : Flat). record x { tests = never ∷ [] }) e
+    ap (λ (x : Flat). record x { tests = never ∷ [] }) e
     ∙ ap (λ ss. record { number = i; tests = never ∷ []; spots = ss }) (parts-spots 0 fs)
     ∙ ap (λ ts. record { number = i; tests = ts; spots = row_spots 0 (list_of fs) }) (sym (ap (λ (b : Bool). if b then row_tests w 0 (list_of fs) else never ∷ []) (differ (eqb (length (list_of fs)) n) refl)))
   where

@@ -1,5 +1,5 @@
 -- The tree of rows by what the first row asks, and trees that grow.
-use Rattle.std.proofs.Common.{◌≡◌, ◌∙◌, refl, sym, ap, arith, ℕ, zero, suc, ◌+◌, ◌*◌, ◌<◌, ◌≤◌, Bool, true, false, List, [], ◌∷◌, ◌++◌, if◌then◌else◌, drop, length, map, reverse}
+use Rattle.std.proofs.Common.{◌≡◌, ◌∙◌, refl, sym, ap, arith, ℕ, zero, suc, ◌+◌, ◌*◌, ◌<◌, ◌≤◌, Bool, true, false, List, [], ◌∷◌, ◌++◌, if◌then◌else◌, Option, Some, None, slice_get, drop, length, map, reverse}
 use Rattle.std.proofs.lemmas.List.{reverse-append}
 use Rattle.campl_code.specs.Decisions.{Choice, Head, Row, Test, Fail, Spot}
 use Rattle.campl_code.specs.Compiled.{Asked, Flat, same_asked, is_asked, where_holds, where_fails, first_test, first_row, tree_of, weight}
@@ -9,7 +9,11 @@ use Rattle.campl_instructions.specs.declared.decision.Head as declared
 use Rattle.campl_instructions.specs.declared.decision.Node.{Node}
 use Rattle.campl_instructions.specs.declared.decision.Node.TheVariants as node
 use Rattle.campl_instructions.proofs.Views.{root-drop}
+use Rattle.std.specs.Borrow.{Bor}
+use Rattle.campl_match.specs.declared.asked.Asked as a
+use Rattle.campl_match.specs.declared.open.Open.{Open}
 use Rattle.campl_match.specs.declared.task.Task as t
+use Rattle.campl_match.specs.View.{view_asked_at, view_open, view_rows}
 use Rattle.campl_match.specs.Growing.{Asks, NoRow, ARow, ATest, asks, row_asks, Task, Rows, Join, finish, newest, nodes_in, seen, tree, trees_in, view_task, work}
 
 -- Trees of rows
@@ -131,12 +135,12 @@ joined ns (m ∷ k ∷ ss) s h fit other more e =
     ∙ ap (λ xs. Test s (view_head h) fit other ∷ trees_in xs ss) (drop-twice m k ns)
     ∙ ap (λ cs. Test s (view_head h) fit other ∷ cs) left
 
-pub grown-join : (nodes new : List Node) (sizes left counts : List ℕ) (s : Spot) (h : declared.Head) (n m k : ℕ) (fit other : Choice) (more : List Choice)
-    → m ≡ newest (reverse sizes) → k ≡ newest (drop 1 (reverse sizes)) → reverse left ≡ drop 1 (drop 1 (reverse sizes)) → n ≡ suc (m + k)
-    → new ≡ nodes ++ node.Test s h 0 m ∷ [] → counts ≡ left ++ n ∷ [] → trees_in (reverse nodes) (reverse sizes) ≡ fit ∷ other ∷ more
+pub grown-join : (nodes mid new : List Node) (sizes left counts : List ℕ) (s t : Spot) (h : declared.Head) (n m k : ℕ) (fit other : Choice) (more : List Choice)
+    → mid ≡ nodes → t ≡ s → m ≡ newest (reverse sizes) → k ≡ newest (drop 1 (reverse sizes)) → reverse left ≡ drop 1 (drop 1 (reverse sizes)) → n ≡ suc (m + k)
+    → new ≡ mid ++ node.Test t h 0 m ∷ [] → counts ≡ left ++ n ∷ [] → trees_in (reverse nodes) (reverse sizes) ≡ fit ∷ other ∷ more
     → trees_in (reverse new) (reverse counts) ≡ Test s (view_head h) fit other ∷ more
-grown-join nodes new sizes left counts s h n m k fit other more em ek el en ex ec e =
-    ap (λ xs. trees_in xs (reverse counts)) (ap reverse ex ∙ reverse-push nodes (node.Test s h 0 m))
+grown-join nodes mid new sizes left counts s t h n m k fit other more ei et em ek el en ex ec e =
+    ap (λ xs. trees_in xs (reverse counts)) (ap reverse ex ∙ reverse-push mid (node.Test t h 0 m) ∙ ap (λ xs. node.Test t h 0 m ∷ reverse xs) ei ∙ ap (λ x. node.Test x h 0 m ∷ reverse nodes) et)
     ∙ ap (trees_in (node.Test s h 0 m ∷ reverse nodes)) (ap reverse ec ∙ reverse-push left n ∙ ap (λ xs. n ∷ xs) el ∙ ap (λ x. x ∷ drop 1 (drop 1 (reverse sizes))) en)
     ∙ ap (λ x. trees_in (node.Test s h 0 x ∷ reverse nodes) (suc (x + k) ∷ drop 1 (drop 1 (reverse sizes)))) em
     ∙ ap (λ x. trees_in (node.Test s h 0 (newest (reverse sizes)) ∷ reverse nodes) (suc (newest (reverse sizes) + x) ∷ drop 1 (drop 1 (reverse sizes)))) ek
@@ -147,6 +151,18 @@ only-root ns [] c e = absurd (cc e)
 only-root ns (n ∷ ss) c e = cc e
 
 -- What is still to be made
+
+pub wants-none : (r : Flat) (ts : List (Bor a.Asked)) → None ≡ slice_get ts 0 → ARow r.number r.spots ≡ row_asks r (map view_asked_at ts)
+wants-none r [] e = refl
+wants-none r (x ∷ ts) e = absurd (cc e)
+
+pub wants-some : (r : Flat) (ts : List (Bor a.Asked)) (x : Bor a.Asked) → Some x ≡ slice_get ts 0 → ATest (view_asked_at x) ≡ row_asks r (map view_asked_at ts)
+wants-some r [] x e = absurd (cc e)
+wants-some r (y ∷ ts) x e = ap (λ z. ATest (view_asked_at z)) (let is : x ≡ y = cc e in is)
+
+pub first-wants : (rows : List Open) (r : Open) → Some r ≡ slice_get rows 0 → row_asks (view_open r) (view_open r).tests ≡ asks (view_rows rows)
+first-wants [] r e = absurd (cc e)
+first-wants (x ∷ rows) r e = ap (λ y. row_asks (view_open y) (view_open y).tests) (let is : r ≡ x = cc e in is)
 
 pub seen-push : (tasks new : List t.Task) (x : t.Task) → new ≡ tasks ++ x ∷ [] → seen new ≡ view_task x ∷ seen tasks
 seen-push tasks new x e = ap (λ ts. map view_task ts) (ap reverse e ∙ reverse-push tasks x)

@@ -217,12 +217,7 @@ fn flatten_text(
 }
 
 /// The first letter of the text at a place.
-fn flatten_letter(
-    alloc: Global,
-    spot: &[u32],
-    c: char,
-    row: &mut Flat,
-) -> Result<(), AllocError>
+fn flatten_letter(alloc: Global, spot: &[u32], c: char, row: &mut Flat) -> Result<(), AllocError>
     ensures { OnOk result (view_flat row.new ≡ with_test (spot.now ++ 0 ∷ [], d.Head.Char c) (with_test (spot.now, d.Head.Cell) (view_flat row.old))) }
 {
     row.ask(alloc, spot, Head::Cell)?;
@@ -231,12 +226,7 @@ fn flatten_letter(
 }
 
 /// The opposite of a number, where an `i64` holds it.
-fn flatten_negative(
-    alloc: Global,
-    spot: &[u32],
-    n: i64,
-    row: &mut Flat,
-) -> Result<(), AllocError>
+fn flatten_negative(alloc: Global, spot: &[u32], n: i64, row: &mut Flat) -> Result<(), AllocError>
     ensures { OnOk result (view_flat row.new ≡ with_test (spot.now, d.Head.Int (neg_ℤ n)) (view_flat row.old)) }
 {
     match n.checked_neg() {

@@ -1,10 +1,10 @@
 //! What is still to be made of a tree.
 ghost use Rattle.std.specs.Prelude.{◌≡◌, ◌+◌, ◌*◌, ◌<◌, ◌∷◌, [], OnOk};
 ghost use Rattle.campl_code.specs.Decisions.{Choice};
-ghost use Rattle.campl_match.specs.Growing.{asks, finish, nodes_in, seen, tree, trees, view_next, view_task, work};
+ghost use Rattle.campl_match.specs.Growing.{asks, finish, nodes_in, row_asks, seen, tree, trees, view_next, view_task, work};
 ghost use Rattle.campl_code.specs.Compiled.{where_fails, where_holds};
 ghost use Rattle.campl_match.specs.Growing as plain;
-ghost use Rattle.campl_match.specs.View.{view_asked, view_rows};
+ghost use Rattle.campl_match.specs.View.{view_asked, view_open, view_rows};
 
 use crate::asked::Asked;
 use crate::flat::Flat;
@@ -94,11 +94,18 @@ fn grow<'a>(
 fn first_wants<'a>(rows: &[Open<'a>]) -> Next<'a>
     ensures { view_next result ≡ asks (view_rows rows.now) }
 {
-    let Some(first) = rows.first() else {
-        return Next::Fail;
-    };
-    match first.tests.get(0) {
-        None => Next::Row(first.row),
+    match rows.first() {
+        None => Next::Fail,
+        Some(row) => row_wants(row),
+    }
+}
+
+fn row_wants<'a>(row: &Open<'a>) -> Next<'a>
+    ensures { view_next result ≡ row_asks (view_open row.now) (view_open row.now).tests }
+{
+    let flat = row.row;
+    match row.tests.get(0) {
+        None => Next::Row(flat),
         Some(asked) => Next::Test(*asked),
     }
 }

@@ -1,7 +1,6 @@
+use Rattle.std.proofs.Common.{◌∙◌}
+use Rattle.campl_match.proofs.Trees.{first-wants}
 use Rattle.campl_match.proofs.task.first_wants.Goals as goal
 
-pub returns-in-None : goal.returns-in-None
-returns-in-None c = ?
-
-pub returns-in-Some-get : goal.returns-in-Some-get
-returns-in-Some-get c = ?
+pub returns-in-Some : goal.returns-in-Some
+returns-in-Some c = c.row_wants.ensures ∙ first-wants c.args.rows.now c.in-Some.row.now c.in-Some.ensures.value
