@@ -1,0 +1,6 @@
+pub mod Bindings
+pub mod Emitting
+pub mod Nodes
+pub mod Places
+pub mod Scopes
+pub mod Sources

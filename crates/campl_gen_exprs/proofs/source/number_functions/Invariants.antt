@@ -1,0 +1,9 @@
+use Rattle.std.proofs.Common.{◌≡◌, List, ℕ, drop, map}
+use Rattle.campl_tree.specs.View.{view_decl}
+use Rattle.campl_code.specs.Generated.{function_number}
+use Rattle.campl_gen_exprs.specs.Sources.{numbered_on}
+use Rattle.campl_gen_exprs.proofs.source.number_functions.Given as goal
+
+abbrev pub invariant-loop-i : goal.invariant-loop-i
+invariant-loop-i l =
+    (x : List ℕ) → numbered_on l.numbers.entries l.next (map view_decl (drop l.i l.declarations)) x ≡ function_number (map view_decl l.declarations) x

@@ -1,0 +1,4 @@
+pub mod Emission
+pub mod Scopes
+pub mod Sources
+pub mod View
