@@ -27,7 +27,6 @@ row-is : (vs : List Tree) (spots : List Spot) (n : ℕ) (vars : List Tree) → r
 row-is vs [] n vars = refl
 row-is vs (s ∷ spots) n vars = row-next vs spots n vars (value_at vs s) (λ t. row-is vs spots (suc n) (slice_set vars n t))
 
-
 -- the values are set in turn
 pub in-turn : (vs : List Tree) (spots : List Spot) (n : ℕ) (vars : List Tree) → option_map (λ ts. set_from n ts vars) (values_at vs spots) ≡ row_set vs spots n vars
 in-turn vs spots n vars = sym (row-is vs spots n vars)
