@@ -1,0 +1,3 @@
+pub mod Tops
+pub mod RowsSet
+pub mod Depths

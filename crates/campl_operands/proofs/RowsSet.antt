@@ -1,0 +1,32 @@
+-- What a row sets, one variable after another.
+use Rattle.std.proofs.Common.{◌≡◌, ℕ, suc, List, [], ◌∷◌, Option, Some, None, sym, ◌∙◌, refl}
+use Rattle.std.specs.Prelude.{option_map, slice_set}
+use Rattle.campl_value.specs.Tree.{Tree}
+use Rattle.campl_code.specs.Decisions.{Spot, value_at, values_at, with_first}
+use Rattle.campl_code.specs.Frames.{set_from}
+
+-- the values at these places, set in turn
+abbrev pub set_next : Option Tree → (List Tree → Option (List Tree)) → ℕ → List Tree → Option (List Tree)
+set_next None next n vars = None
+set_next (Some t) next n vars = next (slice_set vars n t)
+
+abbrev pub row_set : List Tree → List Spot → ℕ → List Tree → Option (List Tree)
+row_set vs [] n vars = Some vars
+row_set vs (s ∷ spots) n vars = set_next (value_at vs s) (row_set vs spots (suc n)) n vars
+
+map-with : (t : Tree) (o : Option (List Tree)) (n : ℕ) (vars : List Tree) → option_map (λ ts. set_from n ts vars) (with_first (Some t) o) ≡ option_map (λ ts. set_from n (t ∷ ts) vars) o
+map-with t None n vars = refl
+map-with t (Some ts) n vars = refl
+
+row-next : (vs : List Tree) (spots : List Spot) (n : ℕ) (vars : List Tree) (o : Option Tree) → ((t : Tree) → row_set vs spots (suc n) (slice_set vars n t) ≡ option_map (λ ts. set_from (suc n) ts (slice_set vars n t)) (values_at vs spots))
+    → set_next o (row_set vs spots (suc n)) n vars ≡ option_map (λ ts. set_from n ts vars) (with_first o (values_at vs spots))
+row-next vs spots n vars None h = refl
+row-next vs spots n vars (Some t) h = h t ∙ sym (map-with t (values_at vs spots) n vars)
+
+row-is : (vs : List Tree) (spots : List Spot) (n : ℕ) (vars : List Tree) → row_set vs spots n vars ≡ option_map (λ ts. set_from n ts vars) (values_at vs spots)
+row-is vs [] n vars = refl
+row-is vs (s ∷ spots) n vars = row-next vs spots n vars (value_at vs s) (λ t. row-is vs spots (suc n) (slice_set vars n t))
+
+-- the values are set in turn
+pub in-turn : (vs : List Tree) (spots : List Spot) (n : ℕ) (vars : List Tree) → option_map (λ ts. set_from n ts vars) (values_at vs spots) ≡ row_set vs spots n vars
+in-turn vs spots n vars = sym (row-is vs spots n vars)

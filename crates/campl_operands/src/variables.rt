@@ -1,0 +1,115 @@
+//! A frame's variables.
+ghost use Rattle.std.specs.Prelude.{◌≡◌, ◌++◌, ◌-◌, [], ◌∷◌, length, reverse, replicate, slice_get, slice_set, option_map, OnOk};
+ghost use Rattle.std.specs.Option.{option_copied};
+ghost use Rattle.campl_value.specs.Tree.{Nil};
+ghost use Rattle.campl_code.specs.Decisions.{values_at};
+ghost use Rattle.campl_code.specs.Frames.{set_from};
+ghost use Rattle.campl_operands.specs.Effects.{Sets};
+
+use crate::RowEffect;
+use campl_instructions::{Spot, value_at};
+use campl_value::Value;
+use std::alloc::{AllocError, Global};
+use std::marker::Model;
+use std::mem;
+
+/// A frame's variables, by their numbers from 0.
+#[derive(Drop)]
+pub struct Variables {
+    items: Vec<Value>,
+}
+
+impl Model for Variables {
+    ghost use Rattle.std.specs.Prelude.{List};
+    ghost use Rattle.std.specs.Coded.{coded_list};
+    ghost use Rattle.campl_value.specs.Tree.{Tree, tree_code};
+
+    ghost Value = { List Tree };
+
+    ghost coded = { coded_list tree_code };
+
+    ghost view = { λ variables. variables.items.items };
+}
+
+impl Variables {
+    /// No variables. It takes no memory.
+    pub fn new(alloc: Global) -> Variables
+        ensures { result ≡ [] }
+    {
+        Variables {
+            items: Vec::new(alloc),
+        }
+    }
+
+    /// The value of the variable with this number, where there is one.
+    pub fn get(&self, n: u32) -> Option<&Value>
+        ensures { option_copied result ≡ slice_get self.now n }
+    {
+        self.items.get(n as usize)
+    }
+
+    /// Sets a variable, where there is one with this number.
+    pub fn put(&mut self, n: usize, value: Value)
+        ensures { self.new ≡ slice_set self.old n value }
+    {
+        if n < self.items.len() {
+            self.items[n] = value;
+        }
+    }
+
+    /// Sets a row's variables, from the first on, to the values at these places.
+    pub fn put_row(&mut self, values: &[Value], first: u32, spots: &[Spot]) -> RowEffect
+        ensures { Sets (option_map (λ ts. set_from first ts self.old) (values_at values.now spots.now)) result self.new }
+    {
+        for (i, spot) in spots.iter().enumerate() {
+            let Some(part) = value_at(values, spot.as_slice()) else {
+                return RowEffect::Missing;
+            };
+            match part.copy() {
+                Err(_) => return RowEffect::OutOfMemory,
+                Ok(value) => self.put(first as usize + i, value),
+            }
+        }
+        RowEffect::Done
+    }
+
+    /// Lets all of them go, and keeps their room.
+    pub fn clear(&mut self)
+        ensures { self.new ≡ [] }
+    {
+        self.items.clear();
+    }
+
+    /// Adds `[]` until there are this many. An error means that memory is out.
+    pub fn pad(&mut self, size: usize) -> Result<(), AllocError>
+        ensures { OnOk result (self.new ≡ self.old ++ replicate (size - length self.old) Nil) }
+    {
+        let missing = size.saturating_sub(self.items.len());
+        for _i in 0..missing {
+            self.push(Value::nil())?;
+        }
+        Ok(())
+    }
+
+    // Adds a variable behind the others.
+    pub(crate) fn push(&mut self, value: Value) -> Result<(), AllocError>
+        ensures { OnOk result (self.new ≡ self.old ++ value ∷ []) }
+    {
+        self.items.push(value)?;
+        Ok(())
+    }
+
+    pub(crate) fn reverse(&mut self)
+        ensures { self.new ≡ reverse self.old }
+    {
+        self.items.as_mut_slice().reverse();
+    }
+
+    // These values become the variables, and the other way round.
+    pub(crate) fn swap(&mut self, values: &mut Vec<Value>)
+        ensures variables { self.new ≡ values.old.items }
+        ensures values { values.new.items ≡ self.old }
+    {
+        mem::swap(&mut self.items, values);
+    }
+}
