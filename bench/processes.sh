@@ -1,6 +1,6 @@
 #!/bin/sh
-# Times `campl check` on well-typed processes of mixed commands, 1 MiB of them and half of that: for each the seconds and the peak
-# memory, and the ratio of the seconds. CAMPL picks the program; prove and build it first, by rt ci or by rt run in crates/campl.
+# Times `campl check` on well-typed processes of mixed commands, 1 MiB of them and half of that: for each the seconds of the
+# processor and the peak memory, and the ratio of the seconds. CAMPL picks the program; prove and build it first, by rt ci or by rt run in crates/campl.
 set -eu
 cd "$(dirname "$0")/.."
 program=${CAMPL:-crates/campl/out/campl}
@@ -58,9 +58,9 @@ processes() {
 
 # Checks a source, and prints the seconds and the peak memory.
 check() {
-    /usr/bin/time -o "$work/time" -f '%e %M' "$program" check "$work/processes$1" >"$work/out" 2>&1 || true
+    /usr/bin/time -o "$work/time" -f '%U %S %M' "$program" check "$work/processes$1" >"$work/out" 2>&1 || true
     told=$(head -n 1 "$work/out")
-    echo "$(wc -c <"$work/processes$1") bytes: $told, $(tail -n 1 "$work/time" | awk '{ print $1 " s, " $2 " KiB" }')"
+    echo "$(wc -c <"$work/processes$1") bytes: $told, $(tail -n 1 "$work/time" | awk '{ print $1 + $2 " s, " $3 " KiB" }')"
 }
 
 for size in 524288 1048576; do
@@ -68,5 +68,5 @@ for size in 524288 1048576; do
     check "$size"
     tail -n 1 "$work/time" >"$work/seconds$size"
 done
-awk '{ seconds[NR] = $1 } END { printf "twice the source: %.2f times the time\n", (seconds[1] > 0 ? seconds[2] / seconds[1] : 0) }' \
+awk '{ seconds[NR] = $1 + $2 } END { printf "twice the source: %.2f times the time\n", (seconds[1] > 0 ? seconds[2] / seconds[1] : 0) }' \
     "$work/seconds524288" "$work/seconds1048576"
