@@ -1,7 +1,10 @@
 pub mod Runs
 pub mod Orders
+pub mod Printed
 pub mod Bytes
+pub mod Entries
 pub mod Journal
+pub mod JournalOfPlug
 pub mod Accepted
 pub mod Hello
 pub mod Endless
