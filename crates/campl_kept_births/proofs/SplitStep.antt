@@ -42,56 +42,14 @@ use Rattle.campl_meaning.proofs.Pairs.{pair-or-none}
 use Rattle.campl_meaning.proofs.Holding.{held-end}
 use Rattle.campl_peel.proofs.Peeling.{none-or}
 use Rattle.campl_frame.proofs.Listed.{some-is, lists, lists-found, found-listed, IsTidy, found-more, found-without, still-without, lists-first, lists-more, lists-later, tidy-more, tidy-without}
+use Rattle.campl_frame.proofs.Alone.{alone-here, alone-others, alone-whose, alone-listed}
+use Rattle.campl_frame.proofs.Held.{held-of, held-more, held-without}
 use Rattle.campl_kept_births.proofs.Bare.{IsSplitAt, split-at}
 use Rattle.campl_frame.proofs.Stays.{agree-same, carries}
 use Rattle.campl_kept_births.proofs.Hands.{settled, Hands, at-other, at-own, lawful-after}
 use Rattle.campl_kept_births.proofs.Masks.{ends-apart, masked, standing-some, standing-none, mask, unmask, node-at, node-in, node-gone, node-nowhere}
 use Rattle.campl_kept_births.proofs.Newborn.{names-kept, own-place, parent-there}
 use Rattle.campl_types.proofs.Bare.{bare-chan-twice}
-
--- A node alone
-
-pub alone : (f : Who → Option State) (u : Who) (s : State) (w : Who) (x : State) → update same_who ((u, Some s) ∷ []) f w ≡ Some x → ((w ≡ u) × (x ≡ s)) ⊎ ((w ≢ u) × (f w ≡ Some x))
-alone f u s w x i = elim (split (same_who u w)) [
-  | inl a ↦ let j : Some s ≡ Some x = rw a at i in inl (sym (same_who-is u w a), sym (cc j))
-  | inr a ↦
-      let n : w ≢ u = λ e. true≢false (sym (subst (λ z. same_who u z ≡ true) (sym e) (same_who-refl u)) ∙ a) in
-      let j : f w ≡ Some x = rw a at i in inr (n, j)
-]
-
-pub beside : (f : Who → Option State) (u : Who) (s : State) (w : Who) (x : State) → w ≢ u → f w ≡ Some x → update same_who ((u, Some s) ∷ []) f w ≡ Some x
-beside f u s w x n i = elim (split (same_who u w)) [ inl a ↦ absurd (n (sym (same_who-is u w a))) | inr a ↦ rw a i ]
-
--- Held channels
-
--- and what has an end and a channel is held
-pub held-of : (channel : Channels) (es : Ends) (x : Name) (e : End) (ch : Channel) → found x es ≡ Some e → channel e ≡ Some ch → held_ends channel es x ≡ Some ch
-held-of channel es x e ch f i = let j : held_ends channel es x ≡ channel e = rw f refl in j ∙ i
-
-pub held-more : (channel : Channels) (x : Name) (e : End) (es : Ends) (ch : Option Channel) (held : Held) → channel e ≡ ch → held_ends channel es ≡ held → held_ends channel ((x, e) ∷ es) ≡ with x ch held
-held-more channel x e es ch held i j = fun_ext (λ y. elim (split (same_name x y)) [
-  | inl s ↦ rw (s, same-turned y x ∙ s) i
-  | inr s ↦ rw (s, same-turned y x ∙ s) (ap (λ (z : Held). z y) j)
-])
-
--- without x, and with the other channels as they were
-pub held-without : (channel channel2 : Channels) (x : Name) (es : Ends) → ((y : Name) (e : End) → same_name x y ≡ false → found y es ≡ Some e → channel2 e ≡ channel e)
-    → held_ends channel2 (without_end x es) ≡ without x (held_ends channel es)
-held-without channel channel2 x es h = fun_ext (λ y. elim (split (same_name x y)) [
-  | inl s ↦ gone y s (found y (without_end x es)) refl
-  | inr s ↦ kept y s (found y es) refl
-])
-  where
-    gone : (y : Name) → same_name x y ≡ true → (o : Option End) → found y (without_end x es) ≡ o → held_ends channel2 (without_end x es) y ≡ without x (held_ends channel es) y
-    gone y s None i = rw (i, s) refl
-    gone y s (Some e) i = absurd (true≢false (sym s ∙ (found-without x es y e i).0))
-
-    kept : (y : Name) → same_name x y ≡ false → (o : Option End) → found y es ≡ o → held_ends channel2 (without_end x es) y ≡ without x (held_ends channel es) y
-    kept y s (Some e) i = rw (still-without x es y e s i, s, i) (h y e s i)
-    kept y s None i = elim (none-or (found y (without_end x es))) [
-      | inl n ↦ rw (n, s, i) refl
-      | inr (e, f) ↦ absurd (let no : None ≡ Some e = sym i ∙ (found-without x es y e f).1 in cc no)
-    ]
 
 module _ (source : Program) (c : Configuration) (l : Lawful source c) (p : Path) (r : Running) (there : c.nodes (Process p) ≡ Some (Runs r))
     (x y z : Name) (rest : Body) (end other a o : End) (side : Side) (u t w : ChanType)
@@ -382,10 +340,10 @@ module _ (source : Program) (c : Configuration) (l : Lawful source c) (p : Path)
 
   hands : Hands source c d l p r r2 None (Some other) channel2 remains
   hands = record {
-    here = parent-there c.nodes (Process p) (Runs r2) [];
+    here = alone-here c.nodes (Process p) (Some (Runs r2));
     born = λ s i. absurd (cc i);
-    others = λ h s n i. beside c.nodes (Process p) (Runs r2) h s n i;
-    whose = λ h s i. elim (alone c.nodes (Process p) (Runs r2) h s i) [ inl j ↦ inl j | inr j ↦ inr (inr j) ];
+    others = alone-others c.nodes (Process p) (Some (Runs r2));
+    whose = λ h s i. elim (alone-whose c.nodes (Process p) (Some (Runs r2)) h s i) [ inl (k, j) ↦ inl (k, sym (cc j)) | inr j ↦ inr (inr j) ];
     paired = l.apart.placed.paired;
     wired = λ e f i. i;
     idle = λ e i. elim (same-end other e) [
@@ -404,10 +362,7 @@ module _ (source : Program) (c : Configuration) (l : Lawful source c) (p : Path)
     shared = λ e i j. true≢false (sym i);
     finite = record {
       nodes = l.nodes;
-      listed = λ h s i. elim (alone c.nodes (Process p) (Runs r2) h s i) [
-        | inl j ↦ subst (Within l.nodes) (sym j.0) (l.listed (Process p) (Runs r) there)
-        | inr j ↦ l.listed h s j.1
-      ];
+      listed = alone-listed c d (Process p) (Runs r) (Some (Runs r2)) there (alone-whose c.nodes (Process p) (Some (Runs r2))) source l;
       ends = l.ends;
       joined = λ e j. l.joined e j;
     };
