@@ -1,5 +1,5 @@
 -- A local step keeps a configuration lawful: all that it leaves alone is as it was.
-use Rattle.std.proofs.Common.{◌≡◌, ◌≢◌, ◌⊎◌, ◌∙◌, inl, inr, refl, sym, ap, subst, ℕ, IsTrue, List, [], ◌∷◌, ◌++◌, Option, Some, None}
+use Rattle.std.proofs.Common.{◌≡◌, ◌≢◌, ◌⊎◌, ◌∙◌, inl, inr, refl, sym, ap, subst, ℕ, IsTrue, List, ◌∷◌, ◌++◌, Option, Some, None}
 use Rattle.campl_tree.specs.Plain.Decl.{Program}
 use Rattle.campl_machine.specs.Names.{Path, End, Who, Process, Service}
 use Rattle.campl_types.specs.Names.{Name, are_distinct, found}
@@ -12,7 +12,7 @@ use Rattle.campl_meaning.specs.Reductions.{Configuration}
 use Rattle.campl_meaning.specs.Apart.{Place, At, In, Gone, IsCarried, IsJoined, IsHeldBy, IsServedBy, IsOfKind, IsPlaced, end_names}
 use Rattle.campl_meaning.specs.Lawful.{Channels, IsTypedAt, AreLastPairs, IsInPhase, Lawful}
 use Rattle.campl_peel.proofs.Peeling.{none-or}
-use Rattle.campl_frame.specs.Frame.{Holds, IsSpent, IsOldPair, IsGoodPair, IsLocal}
+use Rattle.campl_frame.specs.Frame.{Holds, IsSpent, IsLocal}
 use Rattle.campl_frame.proofs.Stays.{typed-same, pair-same, carries, filled}
 
 module _ (source : Program) (c d : Configuration) (l : Lawful source c) (who : Who) (new : Who → State → Type 0) (from : Option End) (channel2 : Channels) (place2 : End → Place)

@@ -1,5 +1,5 @@
 -- Where ends stand when a node gives up some of its own.
-use Rattle.std.proofs.Common.{◌≡◌, ◌≢◌, ◌⊎◌, ◌∙◌, inl, inr, refl, sym, ap, Bool, true, false, ◌&&◌, not, List, Option, None, true≢false, if◌then◌else◌}
+use Rattle.std.proofs.Common.{◌≡◌, ◌≢◌, ◌⊎◌, ◌∙◌, inl, inr, refl, sym, ap, Bool, true, false, ◌&&◌, not, List, None, true≢false, if◌then◌else◌}
 use Rattle.campl_machine.specs.Names.{TellsApart, End, Who, same_end, same_who}
 use Rattle.campl_machine.specs.Graph.{NoCycle}
 use Rattle.campl_machine.proofs.Same.{same_end-is, same_end-refl, same_who-is, same_who-refl}

@@ -1,4 +1,5 @@
 pub mod Listed
+pub mod Held
 pub mod Alone
 pub mod Leaving
 pub mod Stays

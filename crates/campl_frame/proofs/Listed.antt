@@ -155,6 +155,9 @@ without-those x (e ∷ es) = elim (split (same_name x e.0)) [
   | inr s ↦ rw s (ap (λ (z : Ends). e ∷ z) (without-those x es))
 ]
 
+pub distinct-without : (x : Name) (es : Ends) → IsTrue (are_distinct (end_names es)) → IsTrue (are_distinct (end_names (without_end x es)))
+distinct-without x es d = subst (λ z. IsTrue (are_distinct (end_names z))) (sym (without-those x es)) (distinct-those (λ y. not (same_name x y)) es d)
+
 pub tidy-without : (x : Name) (es : Ends) → IsTidy es → IsTidy (without_end x es)
 tidy-without x es t = subst IsTidy (sym (without-those x es)) (tidy-those (λ y. not (same_name x y)) es t)
 

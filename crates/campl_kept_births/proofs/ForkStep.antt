@@ -44,63 +44,16 @@ use Rattle.campl_meaning.proofs.Holding.{held-end}
 use Rattle.campl_peel.proofs.Peeling.{none-or}
 use Rattle.campl_peel.proofs.Terms.{ends-with}
 use Rattle.campl_frame.proofs.Listed.{some-is, lists, lists-found, found-listed, IsTidy, found-kept, found-still, not-kept, found-more, found-without, still-without, lists-first, lists-more, lists-later, tidy-those, tidy-more, tidy-without}
+use Rattle.campl_kept_births.proofs.Sent.{takes-last, carried-either, not-filled, IsTheLast, one-pair}
 use Rattle.campl_kept_births.proofs.Bare.{IsForkAt, fork-at}
 use Rattle.campl_frame.specs.Frame.{IsGoodPair}
 use Rattle.campl_frame.proofs.Stays.{agree-same}
 use Rattle.campl_kept_births.proofs.Hands.{settled, Hands, at-other, at-own, at-kin, lawful-after}
 use Rattle.campl_kept_births.proofs.Masks.{ends-apart, nodes-apart, same_node, masked, standing-some, standing-none, mask, unmask, at-holder, at-pair, node-at, node-in, node-gone, owes-last}
 use Rattle.campl_kept_births.proofs.Newborn.{names-kept, born-differ, born-fresh, born-idle, not-born, own-place, no-child-yet, child-not, family, parent-there, child-there, others-there, new-agree}
-use Rattle.campl_kept_births.proofs.SplitStep.{held-of, held-without}
+use Rattle.campl_frame.proofs.Held.{held-of, held-without}
 use Rattle.campl_types.proofs.Bare.{bare-chan-twice}
 use Rattle.campl_types.proofs.Truth.{not-true}
-
--- Messages with one more
-
-pub takes-last : (w : World) (v : View) (ms : List Message) (m : Message) (mid last : View) → TakesAll w v ms mid → Takes w mid m last → TakesAll w v (ms ++ (m ∷ [])) last
-takes-last w v [] m mid last h k = (last, subst (λ q. Takes w q m last) (sym h) k, refl)
-takes-last w v (n ∷ ms) m mid last (next, t, h) k = (next, t, takes-last w next ms m mid last h k)
-
-pub carried-either : (ms ns : List Message) (e : End) → IsCarried (ms ++ ns) e → IsCarried ms e ⊎ IsCarried ns e
-carried-either [] ns e i = inr i
-carried-either (Word v ∷ ms) ns e i = carried-either ms ns e i
-carried-either (Pick n ∷ ms) ns e i = carried-either ms ns e i
-carried-either (EndPair f g ∷ ms) ns e (inl i) = inl (inl i)
-carried-either (EndPair f g ∷ ms) ns e (inr (inl i)) = inl (inr (inl i))
-carried-either (EndPair f g ∷ ms) ns e (inr (inr i)) = elim (carried-either ms ns e i) [ inl j ↦ inl (inr (inr j)) | inr j ↦ inr j ]
-
-tail-owes : (m : Message) (ms : List Message) → owes_pair (m ∷ ms) ≡ false → owes_pair ms ≡ false
-tail-owes (Word v) ms i = i
-tail-owes (Pick n) ms i = i
-tail-owes (EndPair f g) ms i = absurd (true≢false i)
-
-head-owes : (m : Message) (ms : List Message) (a o : End) → owes_pair (m ∷ ms) ≡ false → m ≡ EndPair a o → ⊥
-head-owes (Word v) ms a o i j = cc j
-head-owes (Pick n) ms a o i j = cc j
-head-owes (EndPair f g) ms a o i j = true≢false i
-
-not-filled : (ms : List Message) (m : Message) (ns : List Message) → [] ≡ ms ++ (m ∷ ns) → ⊥
-not-filled [] m ns e = cc e
-not-filled (n ∷ ms) m ns e = cc e
-
--- the only pair is the last
-record IsTheLast (ms firsts rest : List Message) (f g a o : End) : Type 0 where
-  before : firsts ≡ ms
-  first : f ≡ a
-  second : g ≡ o
-  after : rest ≡ []
-
-one-pair : (ms before after : List Message) (f g a o : End) → owes_pair ms ≡ false → ms ++ (EndPair f g ∷ []) ≡ before ++ (EndPair a o ∷ after) → IsTheLast ms before after f g a o
-one-pair [] [] after f g a o h i =
-    let heads : EndPair f g ≡ EndPair a o = cc i in
-    record { before = refl; first = cc heads; second = cc heads; after = let t : [] ≡ after = cc i in sym t }
-one-pair [] (n ∷ before) after f g a o h i = absurd (let t : [] ≡ before ++ (EndPair a o ∷ after) = cc i in not-filled before (EndPair a o) after t)
-one-pair (m ∷ ms) [] after f g a o h i = absurd (let t : m ≡ EndPair a o = cc i in head-owes m ms a o h t)
-one-pair (m ∷ ms) (n ∷ before) after f g a o h i =
-    let tails : ms ++ (EndPair f g ∷ []) ≡ before ++ (EndPair a o ∷ after) = cc i in
-    let k : IsTheLast ms before after f g a o = one-pair ms before after f g a o (tail-owes m ms h) tails in
-    let heads : m ≡ n = cc i in
-    let b1 : before ≡ ms = k.before in
-    record { before = let q : n ∷ before ≡ m ∷ ms = cc (heads, b1) in q; first = k.first; second = k.second; after = k.after }
 
 module _ (source : Program) (c : Configuration) (l : Lawful source c) (p : Path) (r : Running) (there : c.nodes (Process p) ≡ Some (Runs r))
     (x y z : Name) (one two : Body) (keep : Name → Bool) (end other : End) (side : Side) (u t w : ChanType)

@@ -15,7 +15,7 @@ use Rattle.campl_meaning.specs.Apart.{Place, At, In, Gone, IsCarried, IsJoined, 
 use Rattle.campl_meaning.specs.Lawful.{Channels, seen, IsTypedAt, Agree, Lawful}
 use Rattle.campl_meaning.proofs.Finite.{IsFinite}
 use Rattle.campl_peel.proofs.Peeling.{none-or}
-use Rattle.campl_frame.specs.Frame.{Holds, IsOldPair, IsGoodPair, IsLocal}
+use Rattle.campl_frame.specs.Frame.{Holds, IsGoodPair, IsLocal}
 use Rattle.campl_frame.proofs.Listed.{lists, lists-found, found-listed}
 use Rattle.campl_frame.proofs.Stays.{filled}
 use Rattle.campl_frame.proofs.Frame.{local-lawful}

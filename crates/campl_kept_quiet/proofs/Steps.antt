@@ -42,7 +42,8 @@ use Rattle.campl_kept_quiet.specs.Quiet.{behind, Keeps}
 use Rattle.campl_kept_quiet.proofs.Alike.{alike-itself}
 use Rattle.campl_kept_quiet.proofs.Frame.{frame}
 use Rattle.campl_kept_quiet.proofs.Acts.{spent_more, found-does, answer-does, if-does}
-use Rattle.campl_kept_quiet.proofs.Without.{without-was, without-is, without-held, less-distinct}
+use Rattle.campl_frame.proofs.Listed.{found-without, still-without, distinct-without}
+use Rattle.campl_frame.proofs.Held.{held-without}
 use Rattle.campl_types.specs.Values.{IsValue}
 use Rattle.campl_types.proofs.Deeds.{ends-top}
 
@@ -118,10 +119,10 @@ module _ (source : Program) (c : Configuration) (p : Path) (r : Running) (l : La
     after = l.channel;
     kept = λ a. not (same_end e a);
     steps = λ t i. let j : s ≡ t = cc i in subst (λ (z : Running). r.steps ≤ z.steps) j more;
-    names = λ t i. let j : s ≡ t = cc i in subst (λ z. IsTrue (are_distinct (end_names z))) (sym (ends-of t j)) (less-distinct x r.ends (l.apart.placed.names p r is));
+    names = λ t i. let j : s ≡ t = cc i in subst (λ z. IsTrue (are_distinct (end_names z))) (sym (ends-of t j)) (distinct-without x r.ends (l.apart.placed.names p r is));
     ends = λ t y z a i f g. let j : s ≡ t = cc i in l.apart.placed.ends p r y z a is (was t y a j f).1 (was t z a j g).1;
     came = λ t y a i f. let j : s ≡ t = cc i in (other y a (was t y a j f).0 (was t y a j f).1, (y, (was t y a j f).1));
-    stays = λ y a f i. (s, y, refl, subst (λ z. found y z ≡ Some a) (sym same) (without-is x y r.ends a (named y a f i) f));
+    stays = λ y a f i. (s, y, refl, subst (λ z. found y z ≡ Some a) (sym same) (still-without x r.ends y a (named y a f i) f));
     given = λ y a f i. inr (top.0, ap l.channel (sym (is-it a i)) ∙ top.1);
     alike = λ a. alike-itself (l.channel a);
     others = λ a n. refl;
@@ -132,7 +133,7 @@ module _ (source : Program) (c : Configuration) (p : Path) (r : Running) (l : La
       ends-of t j = ap (λ (z : Running). z.ends) (sym j) ∙ same
 
       was : (t : Running) (y : Name) (a : End) → s ≡ t → found y t.ends ≡ Some a → (same_name x y ≡ false) × (found y r.ends ≡ Some a)
-      was t y a j f = without-was x y r.ends a (subst (λ z. found y z ≡ Some a) (ends-of t j) f)
+      was t y a j f = found-without x r.ends y a (subst (λ z. found y z ≡ Some a) (ends-of t j) f)
 
       -- another name has another end
       other : (y : Name) (a : End) → same_name x y ≡ false → found y r.ends ≡ Some a → not (same_end e a) ≡ true
@@ -191,7 +192,7 @@ keeps-close at x rest source c d p r i l is t does =
     subst (Lawful source) (sym g) (giving-up source c p r l is
     (record { term = Doing rest; variables = r.variables; ends = without_end x.name r.ends; steps = suc r.steps; spent = 0 })
     x.name e f refl (omega arith) (s, top-at source c p r l is x.name e s u f h ends)
-    (record { vars = vs; bound = bound; term = (subst (λ z. IsWellFormed (world_of source) vs z rest) (sym (without-held l.channel x.name r.ends)) well, trees) }))
+    (record { vars = vs; bound = bound; term = (subst (λ z. IsWellFormed (world_of source) vs z rest) (sym (held-without l.channel l.channel x.name r.ends (λ y a n f. refl))) well, trees) }))
 
 pub keeps-halt : (at : Place) (x : Option Ident) → Keeps (b.Halt at x)
 keeps-halt at None source c d p r i l is t does =
