@@ -14,11 +14,13 @@
 mod binding;
 mod emission;
 mod emitter;
+mod functions;
 mod scope;
 mod source;
 
 pub use binding::{bind_pattern, bind_patterns};
 pub use emission::{emit, emit_all};
 pub use emitter::Emitter;
+pub use functions::function_blocks;
 pub use scope::Scope;
 pub use source::Source;

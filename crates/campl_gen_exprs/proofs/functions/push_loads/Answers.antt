@@ -1,0 +1,7 @@
+use Rattle.std.proofs.Common.{◌∙◌, sym}
+use Rattle.campl_gen_exprs.specs.View.{view_emitter}
+use Rattle.campl_gen_exprs.proofs.FunctionCode.{loads-at}
+use Rattle.campl_gen_exprs.proofs.functions.push_loads.Goals as goal
+
+pub loads-preserved : goal.loads-preserved
+loads-preserved c = rw c.in_ok-push.ensures (sym (loads-at (view_emitter c.loads.code) c.loads.n c.in_ok-count.count c.loads-test.true) ∙ c.loads.invariant)
