@@ -149,7 +149,7 @@ settled-less a (t ∷ ts) = go (same_asked a t) (settled-less a ts)
     go true h = omega (arith, h)
     go false h = omega (arith, h)
 
-holds-less : (a : Asked) (rows : List Flat) → weight (where_holds a rows) ≤ weight rows
+pub holds-less : (a : Asked) (rows : List Flat) → weight (where_holds a rows) ≤ weight rows
 holds-less a [] = omega arith
 holds-less a (r ∷ rows) = go (is_refuted a r.tests) (holds-less a rows)
   where
@@ -157,7 +157,7 @@ holds-less a (r ∷ rows) = go (is_refuted a r.tests) (holds-less a rows)
     go true h = omega (arith, h)
     go false h = omega (arith, h, settled-less a r.tests)
 
-fails-less : (a : Asked) (rows : List Flat) → weight (where_fails a rows) ≤ weight rows
+pub fails-less : (a : Asked) (rows : List Flat) → weight (where_fails a rows) ≤ weight rows
 fails-less a [] = omega arith
 fails-less a (r ∷ rows) = go (is_asked a r.tests) (fails-less a rows)
   where
@@ -165,7 +165,7 @@ fails-less a (r ∷ rows) = go (is_asked a r.tests) (fails-less a rows)
     go true h = omega (arith, h)
     go false h = omega (arith, h)
 
-first-less : (a : Asked) (ts : List Asked) (r : Flat) (rows : List Flat) → r.tests ≡ a ∷ ts → suc (weight (where_holds a (r ∷ rows))) ≤ weight (r ∷ rows)
+pub first-less : (a : Asked) (ts : List Asked) (r : Flat) (rows : List Flat) → r.tests ≡ a ∷ ts → suc (weight (where_holds a (r ∷ rows))) ≤ weight (r ∷ rows)
 first-less a ts r rows e = go (is_refuted a r.tests)
   where
     size : length r.tests ≡ suc (length ts)

@@ -1,2 +1,2 @@
 mod Copies
-mod Views
+pub mod Views

@@ -1,0 +1,4 @@
+mod Flattening
+mod Opened
+mod Rows
+mod Trees

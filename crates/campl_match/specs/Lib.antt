@@ -1,0 +1,3 @@
+pub mod Flattened
+pub mod Growing
+pub mod View
