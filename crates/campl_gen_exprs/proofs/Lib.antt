@@ -1,5 +1,6 @@
 pub mod Bindings
 pub mod Emitting
+pub mod FunctionCode
 pub mod Nodes
 pub mod Places
 pub mod Scopes

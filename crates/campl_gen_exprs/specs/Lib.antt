@@ -1,4 +1,5 @@
 pub mod Emission
+pub mod Functions
 pub mod Scopes
 pub mod Sources
 pub mod View

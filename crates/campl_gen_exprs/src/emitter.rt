@@ -1,5 +1,5 @@
 //! The code that is emitted so far.
-ghost use Rattle.std.specs.Prelude.{◌≡◌, ◌+◌, true, false, [], ◌∷◌, IfOk, OnOk, length, suc};
+ghost use Rattle.std.specs.Prelude.{◌≡◌, ◌+◌, true, false, [], ◌∷◌, IfOk, OnOk, length, map, suc};
 ghost use Rattle.campl_types.specs.Names.{found};
 ghost use Rattle.campl_code.specs.Generated.{last, past, leave, conses_code, tested_code, or_zero};
 ghost use Rattle.campl_code.specs.Instructions as i;
@@ -37,6 +37,15 @@ impl Emitter {
             free: 0,
             scope: Scope::new(alloc),
         }
+    }
+
+    /// The code alone.
+    pub fn into_code(self) -> Items<Instr>
+        ensures { map view_instr result ≡ (view_emitter self).code }
+    {
+        let Emitter { code, scope, .. } = self;
+        drop(scope);
+        code
     }
 
     /// The place of the next instruction.
