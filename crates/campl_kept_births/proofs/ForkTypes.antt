@@ -1,59 +1,30 @@
 -- A fork: types, what partners agree on, and the pair that is sent.
-use Rattle.std.proofs.Common.{◌≡◌, ◌≢◌, ◌⊎◌, ◌∙◌, inl, inr, refl, sym, ap, subst, ℕ, suc, arith, Bool, true, false, not, true≢false, List, [], ◌∷◌, ◌++◌, Option, Some, None, if◌then◌else◌}
-use Rattle.campl_tree.specs.declared.place.Place.{Place as Spot}
-use Rattle.campl_tree.specs.declared.place.Ident.{Ident}
-use Rattle.campl_tree.specs.declared.service.Side.{Side}
-use Rattle.campl_tree.specs.Side.{opposite}
-use Rattle.campl_tree.specs.Plain.ChanType.{ChanType}
-use Rattle.campl_tree.specs.Plain.Process as b
-use Rattle.campl_tree.specs.Plain.Process.{Body}
-use Rattle.campl_tree.specs.Plain.Decl.{Program}
-use Rattle.campl_machine.specs.Names.{Path, Half, First, Second, End, Process, same_end}
-use Rattle.campl_machine.specs.Machine.{Lies, Move, Moves, both_ways, moved, performs}
-use Rattle.campl_machine.specs.Graph.{NoCycle}
-use Rattle.campl_machine.specs.Changes as changes
-use Rattle.campl_machine.proofs.Same.{same_end-refl}
-use Rattle.campl_machine.proofs.Updates.{split}
-use Rattle.campl_machine.proofs.Ends.{apart, ne, same-end}
-use Rattle.campl_machine.proofs.Partners.{births}
-use Rattle.campl_machine.proofs.Forking.{fork-forest}
-use Rattle.campl_types.specs.World.{World, world_of}
+use Rattle.std.proofs.Common.{◌≡◌, ◌≢◌, ◌⊎◌, ◌∙◌, inl, inr, refl, sym, ap, subst, Bool, true, false, true≢false, List, [], ◌∷◌, ◌++◌, Some, None}
+use Rattle.campl_machine.specs.Names.{First, Second, End}
+use Rattle.campl_machine.proofs.Ends.{ne, same-end}
+use Rattle.campl_types.specs.World.{world_of}
 use Rattle.campl_types.specs.Names.{Name, same_name, found}
 use Rattle.campl_types.specs.SameType.{bare_chan}
-use Rattle.campl_types.specs.Polarity.{Forks, deed}
 use Rattle.campl_types.specs.Held.{Channel, On, with, without, only}
-use Rattle.campl_types.specs.Linear.{AreNew, IsWellFormed}
-use Rattle.campl_types.specs.Free.{is_free, IsDividedByNames}
-use Rattle.campl_types.specs.Views.{View, Nothing, turned, side_of}
-use Rattle.campl_types.proofs.Names.{same-is, same-itself}
-use Rattle.campl_types.proofs.Forked.{divided-by-names}
-use Rattle.campl_peel.specs.Trees.{PlugsAreTrees}
-use Rattle.campl_peel.specs.Terms.{Doing, TermIsWellFormed, those, held_ends}
-use Rattle.campl_meaning.specs.States as k
-use Rattle.campl_meaning.specs.States.{Command, Message, Word, Pick, EndPair, Ends, Running, State, Runs, Serves}
-use Rattle.campl_meaning.specs.Bodies.{without_end}
-use Rattle.campl_meaning.specs.Wants.{born, child, newborn, onward, with_found, command, term_command}
-use Rattle.campl_meaning.specs.Reductions.{Configuration, act_of}
+use Rattle.campl_types.specs.Linear.{IsWellFormed}
+use Rattle.campl_types.specs.Views.{Nothing, turned, side_of}
+use Rattle.campl_peel.specs.Terms.{those, held_ends}
+use Rattle.campl_meaning.specs.States.{Message, EndPair, Ends, Running}
+use Rattle.campl_meaning.specs.Reductions.{Configuration}
 use Rattle.campl_meaning.specs.Views.{view_in, view_of, Takes, TakesAll, taken_at}
-use Rattle.campl_meaning.specs.Apart.{Place, At, In, Gone, IsCarried, IsJoined, IsNamed, Holder, Pair, owes_pair, node_of, graph}
-use Rattle.campl_meaning.specs.Lawful.{Channels, seen, IsTypedAt, IsPairOf, Agree, Lawful}
-use Rattle.campl_meaning.proofs.Finite.{finite-of, finite-kept}
+use Rattle.campl_meaning.specs.Apart.{Place, Gone, IsCarried, owes_pair}
+use Rattle.campl_meaning.specs.Lawful.{Channels, seen, IsTypedAt, IsPairOf, Agree}
 use Rattle.campl_meaning.proofs.Agreeing.{agree-turned}
-use Rattle.campl_meaning.proofs.Pairs.{pair-or-none, carried-right, carried-owes}
-use Rattle.campl_meaning.proofs.Holding.{held-end}
-use Rattle.campl_peel.proofs.Peeling.{none-or}
+use Rattle.campl_meaning.proofs.Pairs.{pair-or-none, carried-owes}
 use Rattle.campl_peel.proofs.Terms.{ends-with}
-use Rattle.campl_frame.proofs.Listed.{some-is, lists, lists-found, found-listed, IsTidy, found-kept, found-still, not-kept, found-more, found-without, still-without, lists-first, lists-more, lists-later, tidy-those, tidy-more, tidy-without}
-use Rattle.campl_kept_births.proofs.Sent.{takes-last, carried-either, not-filled, IsTheLast, one-pair}
-use Rattle.campl_kept_births.proofs.Bare.{IsForkAt, fork-at}
+use Rattle.campl_frame.proofs.Listed.{some-is, found-more}
+use Rattle.campl_kept_births.proofs.Sent.{takes-last, IsTheLast, one-pair}
 use Rattle.campl_frame.specs.Frame.{IsGoodPair}
 use Rattle.campl_frame.proofs.Stays.{agree-same}
-use Rattle.campl_kept_births.proofs.Hands.{settled, Hands, at-other, at-own, at-kin, lawful-after}
-use Rattle.campl_kept_births.proofs.Masks.{ends-apart, nodes-apart, same_node, masked, standing-some, standing-none, mask, unmask, at-holder, at-pair, node-at, node-in, node-gone, owes-last}
-use Rattle.campl_kept_births.proofs.Newborn.{names-kept, born-differ, born-fresh, born-idle, not-born, own-place, no-child-yet, child-not, family, parent-there, child-there, others-there, new-agree}
-use Rattle.campl_frame.proofs.Held.{held-of, held-without}
+use Rattle.campl_kept_births.proofs.Hands.{settled}
+use Rattle.campl_kept_births.proofs.Newborn.{own-place, new-agree}
+use Rattle.campl_frame.proofs.Held.{held-without}
 use Rattle.campl_types.proofs.Bare.{bare-chan-twice}
-use Rattle.campl_types.proofs.Truth.{not-true}
 use Rattle.campl_kept_births.proofs.ForkEnds.{Forking}
 use Rattle.campl_kept_births.proofs.ForkEnds.{a1 as a1_of, a2 as a2_of, b1 as b1_of, b2 as b2_of, base as base_of, drop as drop_of, r2 as r2_of, r3 as r3_of, d as d_of, channel2 as channel2_of, remains as remains_of, at-fork, a2-b2, which, old, back, end-other, partner-a1, partner-a2, partner-b1, partner-b2, partner-old, wired, channel-end, channel-a1, channel-a2, channel-b1, channel-b2, channel-old, seen-old, owed-end, owed-old, owed-new, remains-end}
 use Rattle.campl_kept_births.proofs.ForkHeld.{end-place, in-base, not-end, end-unlisted}

@@ -1,41 +1,35 @@
 -- A peel keeps what is lawful.
-use Rattle.std.proofs.Common.{◌≡◌, ◌≢◌, ◌⊎◌, ◌∙◌, inl, inr, refl, sym, ap, subst, ℕ, suc, Bool, true, false, not, true≢false, [], ◌∷◌, ◌++◌, Option, Some, None, if◌then◌else◌}
+use Rattle.std.proofs.Common.{◌≡◌, ◌≢◌, ◌⊎◌, ◌∙◌, inl, inr, refl, sym, ap, subst, ℕ, suc, Bool, true, true≢false, [], ◌∷◌, ◌++◌, Option, Some, None}
 use Rattle.campl_tree.specs.declared.service.Side.{Side}
 use Rattle.campl_tree.specs.Side.{opposite}
 use Rattle.campl_tree.specs.Plain.ChanType.{ChanType}
 use Rattle.campl_tree.specs.Plain.Process as b
 use Rattle.campl_tree.specs.Plain.Decl.{Program}
-use Rattle.campl_machine.specs.Names.{Path, Half, First, Second, End, Process, same_end}
-use Rattle.campl_machine.specs.Machine.{Lies, Move, Moves, both_ways, moved, performs}
+use Rattle.campl_machine.specs.Names.{Path, First, Second, End, Process, same_end}
+use Rattle.campl_machine.specs.Machine.{Lies, Move, Moves, both_ways, performs}
 use Rattle.campl_machine.specs.Graph.{NoCycle}
 use Rattle.campl_machine.specs.Changes as changes
-use Rattle.campl_machine.proofs.Same.{same_end-refl}
 use Rattle.campl_machine.proofs.Updates.{split}
-use Rattle.campl_machine.proofs.Ends.{apart, ne, same-end}
+use Rattle.campl_machine.proofs.Ends.{ne}
 use Rattle.campl_machine.proofs.Partners.{births}
 use Rattle.campl_machine.proofs.Shapes.{peel-forest}
 use Rattle.campl_types.specs.World.{World, world_of}
 use Rattle.campl_types.specs.Names.{Name, found}
-use Rattle.campl_types.specs.Held.{Channel, On, with, only}
-use Rattle.campl_peel.specs.Plugging.{stands_in, side_in, held_by_child, held_by_rest}
-use Rattle.campl_peel.specs.Peel.{Peel}
-use Rattle.campl_peel.specs.Terms.{Term, Doing, Plugging, is_plug, peel_in, left_behind, TermIsWellFormed, TermPeels, those, held_ends}
+use Rattle.campl_types.specs.Held.{Channel, On}
+use Rattle.campl_peel.specs.Terms.{Term, Doing, Plugging, is_plug, peel_in, those, held_ends}
 use Rattle.campl_meaning.specs.States.{Command, Message, Running, State, Runs}
-use Rattle.campl_meaning.specs.Wants.{born, child, half_on, peels, term_command}
+use Rattle.campl_meaning.specs.Wants.{child, peels, term_command}
 use Rattle.campl_meaning.specs.Reductions.{Configuration, act_of}
 use Rattle.campl_meaning.specs.Views.{view_in}
 use Rattle.campl_meaning.specs.Apart.{Place, At, IsJoined, IsNamed, Holder, node_of, graph}
-use Rattle.campl_meaning.specs.Lawful.{Channels, IsTypedAt, Agree, Lawful}
-use Rattle.campl_peel.proofs.Terms.{term-peels, ends-with}
-use Rattle.campl_types.proofs.Truth.{not-true}
-use Rattle.campl_frame.proofs.Listed.{some-is, lists, lists-found, found-listed, IsTidy, found-kept, found-still, not-kept, found-more, lists-first, lists-more, lists-later, tidy-those, tidy-more}
+use Rattle.campl_meaning.specs.Lawful.{Channels, IsTypedAt, Lawful}
+use Rattle.campl_peel.proofs.Terms.{term-peels}
+use Rattle.campl_frame.proofs.Listed.{some-is, lists, IsTidy, lists-first}
 use Rattle.campl_meaning.proofs.Finite.{finite-of, finite-kept}
-use Rattle.campl_meaning.proofs.Agreeing.{agree-turned}
 use Rattle.campl_peel.proofs.Peeling.{none-or}
-use Rattle.campl_frame.proofs.Stays.{same-held, agree-same}
 use Rattle.campl_kept_births.proofs.Hands.{settled, Hands, at-other, at-own, at-kin, lawful-after}
 use Rattle.campl_kept_births.proofs.Masks.{ends-apart, masked, standing-some, standing-none, mask, unmask, at-holder, node-at}
-use Rattle.campl_kept_births.proofs.Newborn.{names-kept, halves-differ, born-differ, wire, born-fresh, born-idle, not-born, own-place, no-child-yet, child-not, family, parent-there, child-there, others-there, new-agree}
+use Rattle.campl_kept_births.proofs.Newborn.{names-kept, born-differ, born-fresh, no-child-yet, child-not, family, parent-there, child-there, others-there}
 use Rattle.campl_kept_births.proofs.PeelEnds.{Peeling}
 use Rattle.campl_kept_births.proofs.PeelEnds.{x as x_of, T as T_of, side as side_of, mine as mine_of, theirs as theirs_of, goes as goes_of, stays as stays_of, r2 as r2_of, r3 as r3_of, move as move_of, d as d_of, channel2 as channel2_of, which, partner-theirs, partner-mine, partner-old, channel-theirs, channel-mine, channel-joined, wired, tidy-mine, tidy-theirs, all-kept, joined-still, own-joined, own-free, shared, each-of, typed-mine, typed-theirs, agree}
 
