@@ -1,5 +1,5 @@
 -- What is held behind a step that adds an end, or takes one away.
-use Rattle.std.proofs.Common.{◌≡◌, ◌∙◌, inl, inr, refl, sym, ap, true, false, true≢false, ◌∷◌, Option, Some, None, if◌then◌else◌}
+use Rattle.std.proofs.Common.{◌≡◌, ◌∙◌, inl, inr, refl, sym, ap, true, false, true≢false, ◌∷◌, Option, Some, None}
 use Rattle.std.proofs.Math.Path.{fun_ext}
 use Rattle.campl_machine.specs.Names.{End}
 use Rattle.campl_machine.proofs.Updates.{split}

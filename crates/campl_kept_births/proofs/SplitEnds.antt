@@ -1,54 +1,32 @@
 -- A split: the configuration behind it, end by end.
-use Rattle.std.proofs.Common.{◌≡◌, ◌≢◌, ◌⊎◌, ◌∙◌, inl, inr, refl, sym, ap, subst, ℕ, suc, true, false, true≢false, List, [], ◌∷◌, Option, Some, None, if◌then◌else◌}
-use Rattle.std.proofs.Math.Path.{fun_ext}
-use Rattle.campl_tree.specs.declared.place.Place.{Place as Spot}
-use Rattle.campl_tree.specs.declared.place.Ident.{Ident}
+use Rattle.std.proofs.Common.{◌≡◌, ◌≢◌, ◌∙◌, inl, inr, refl, sym, ap, subst, suc, true, [], ◌∷◌, Some, None, if◌then◌else◌}
 use Rattle.campl_tree.specs.declared.service.Side.{Side}
 use Rattle.campl_tree.specs.Plain.ChanType.{ChanType}
-use Rattle.campl_tree.specs.Plain.Process as b
 use Rattle.campl_tree.specs.Plain.Process.{Body}
 use Rattle.campl_tree.specs.Plain.Decl.{Program}
-use Rattle.campl_machine.specs.Names.{Path, End, Who, Process, same_end, same_who}
-use Rattle.campl_machine.specs.Machine.{Looks, update, looked, performs}
-use Rattle.campl_machine.specs.Progress.{Within}
-use Rattle.campl_machine.specs.Graph.{NoCycle}
-use Rattle.campl_machine.specs.Changes as changes
-use Rattle.campl_machine.proofs.Same.{same_end-refl, same_who-is, same_who-refl}
-use Rattle.campl_machine.proofs.Updates.{split}
-use Rattle.campl_machine.proofs.Ends.{apart, ne, same-end}
-use Rattle.campl_machine.proofs.Performs.{does_of}
-use Rattle.campl_machine.proofs.Shapes.{receipt-forest}
+use Rattle.campl_machine.specs.Names.{Path, End, Process, same_end}
+use Rattle.campl_machine.specs.Machine.{looked}
+use Rattle.campl_machine.proofs.Same.{same_end-refl}
+use Rattle.campl_machine.proofs.Ends.{apart, same-end}
 use Rattle.campl_types.specs.World.{world_of}
-use Rattle.campl_types.specs.Names.{Name, same_name, found}
+use Rattle.campl_types.specs.Names.{Name, found}
 use Rattle.campl_types.specs.SameType.{bare_chan, IsSameChan}
 use Rattle.campl_types.specs.Polarity.{Splits, deed}
-use Rattle.campl_types.specs.Held.{Channel, On, Held, with, without}
+use Rattle.campl_types.specs.Held.{On, with, without}
 use Rattle.campl_types.specs.Linear.{AreNew, IsWellFormed}
 use Rattle.campl_types.specs.Views.{View, Nothing, turned, deed_of, side_of}
 use Rattle.campl_types.specs.Views as v
-use Rattle.campl_types.proofs.Names.{same-is, same-itself, same-turned}
 use Rattle.campl_peel.specs.Trees.{PlugsAreTrees}
-use Rattle.campl_peel.specs.Terms.{Doing, TermIsWellFormed, held_ends}
-use Rattle.campl_meaning.specs.States as k
-use Rattle.campl_meaning.specs.States.{Command, Message, Word, Pick, EndPair, Ends, Running, State, Runs, Serves}
+use Rattle.campl_peel.specs.Terms.{Doing, held_ends}
+use Rattle.campl_meaning.specs.States.{EndPair, Running, Runs}
 use Rattle.campl_meaning.specs.Bodies.{without_end}
-use Rattle.campl_meaning.specs.Wants.{onward, on_ends, with_found, command, term_command}
-use Rattle.campl_meaning.specs.Reductions.{Configuration, act_of}
-use Rattle.campl_meaning.specs.Views.{view_in, view_of, TakesAll, taken_at}
-use Rattle.campl_meaning.specs.Apart.{Place, At, In, Gone, IsCarried, IsJoined, IsNamed, Holder, Pair, owes_pair, node_of, graph}
-use Rattle.campl_meaning.specs.Lawful.{Channels, seen, IsTypedAt, IsPairOf, Agree, Lawful}
-use Rattle.campl_meaning.proofs.Agreeing.{agree-turned}
-use Rattle.campl_meaning.proofs.Pairs.{pair-or-none}
-use Rattle.campl_meaning.proofs.Holding.{held-end}
-use Rattle.campl_peel.proofs.Peeling.{none-or}
-use Rattle.campl_frame.proofs.Listed.{some-is, lists, lists-found, found-listed, IsTidy, found-more, found-without, still-without, lists-first, lists-more, lists-later, tidy-more, tidy-without}
-use Rattle.campl_frame.proofs.Alone.{alone-here, alone-others, alone-whose, alone-listed}
-use Rattle.campl_frame.proofs.Held.{held-of, held-more, held-without}
+use Rattle.campl_meaning.specs.Reductions.{Configuration}
+use Rattle.campl_meaning.specs.Views.{view_in, view_of}
+use Rattle.campl_meaning.specs.Apart.{Place, At, In, Gone, IsCarried, IsJoined}
+use Rattle.campl_meaning.specs.Lawful.{Channels, seen, IsPairOf, Lawful}
+use Rattle.campl_frame.proofs.Listed.{IsTidy}
 use Rattle.campl_kept_births.proofs.Bare.{IsSplitAt, split-at}
-use Rattle.campl_frame.proofs.Stays.{agree-same, carries}
-use Rattle.campl_kept_births.proofs.Hands.{settled, Hands, at-other, at-own, lawful-after}
-use Rattle.campl_kept_births.proofs.Masks.{ends-apart, masked, standing-some, standing-none, mask, unmask, node-at, node-in, node-gone, node-nowhere}
-use Rattle.campl_kept_births.proofs.Newborn.{names-kept, own-place, parent-there}
+use Rattle.campl_kept_births.proofs.Newborn.{own-place}
 use Rattle.campl_types.proofs.Bare.{bare-chan-twice}
 
 -- a process in a lawful configuration at a split, and the pair that it takes

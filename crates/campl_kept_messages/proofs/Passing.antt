@@ -72,7 +72,7 @@ may-get w s u t y m n i h =
       is,
       record {
         letter = subst IsLetter (sym e) tt;
-              next = λ k g. let (b, j, js, r) = word-taken w s u t y m k i g in r;
+        next = λ k g. let (b, j, js, r) = word-taken w s u t y m k i g in r;
       },
     )
 
@@ -91,7 +91,7 @@ may-offer w s u cs m n i h =
       at,
       record {
         letter = subst IsLetter (sym e) tt;
-              next = λ o g.
+        next = λ o g.
             let (j, z, v, f, get, r) = pick-taken w s u cs m o i g in
             let kj : j ≡ k = pick-number j k (sym f ∙ e) in
             let vy : v ≡ y = second-of cs k z x v y (subst (λ a. IsChoice cs a z v) kj get) at in

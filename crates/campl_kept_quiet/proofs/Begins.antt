@@ -1,5 +1,5 @@
 -- The start of an accepted source with any scripts is lawful.
-use Rattle.std.proofs.Common.{◌≡◌, ◌≢◌, ◌∙◌, ◌⊎◌, inl, inr, refl, sym, ap, ap₂, subst, ℕ, zero, suc, arith, Bool, true, false, IsTrue, List, [], ◌∷◌, ◌++◌, Option, Some, None, map, length, true≢false, append_assoc, codes}
+use Rattle.std.proofs.Common.{◌≡◌, ◌≢◌, ◌∙◌, ◌⊎◌, inl, inr, refl, sym, ap, ap₂, subst, ℕ, zero, suc, arith, true, IsTrue, List, [], ◌∷◌, ◌++◌, Option, Some, None, map, length, true≢false, append_assoc, codes}
 use Rattle.campl_tree.specs.declared.place.Ident.{Ident}
 use Rattle.campl_tree.specs.declared.process.Binder.{Binder}
 use Rattle.campl_tree.specs.declared.service.Side.{Side}
@@ -14,7 +14,6 @@ use Rattle.campl_machine.specs.Machine.{update, both_ways}
 use Rattle.campl_machine.specs.Graph.{Graph, Leads, Mutual, NoCycle}
 use Rattle.campl_machine.specs.Progress.{Within}
 use Rattle.campl_machine.proofs.Bridges.{Bridge, no_cycle}
-use Rattle.campl_types.specs.declared.fault.NameFault.{NameFault}
 use Rattle.campl_types.specs.Names.{Name, found, are_distinct, is_empty}
 use Rattle.campl_types.specs.SameType.{nowhere, IsSameChan}
 use Rattle.campl_types.specs.World.{World, world_of, names_of, process_named}

@@ -1,5 +1,5 @@
 -- A step of a process that changes only its own state keeps a configuration lawful.
-use Rattle.std.proofs.Common.{◌≡◌, ◌≢◌, ◌∙◌, ◌⊎◌, inl, inr, refl, sym, ap, subst, Bool, true, false, List, [], ◌∷◌, Option, Some, None, option_map, true≢false}
+use Rattle.std.proofs.Common.{◌≡◌, ◌≢◌, ◌∙◌, ◌⊎◌, inl, inr, refl, sym, ap, subst, true, false, List, Option, Some, None, option_map, true≢false}
 use Rattle.campl_tree.specs.Plain.Decl.{Program}
 use Rattle.campl_machine.specs.Names.{Path, End, Who, Process, same_who}
 use Rattle.campl_machine.proofs.Updates.{split}

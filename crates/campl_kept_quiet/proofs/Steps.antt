@@ -4,8 +4,7 @@ use Rattle.campl_tree.specs.declared.place.Ident.{Ident}
 use Rattle.campl_tree.specs.declared.place.Place.{Place}
 use Rattle.campl_tree.specs.Plain.Expr.{Expr}
 use Rattle.campl_tree.specs.declared.service.Side.{Side}
-use Rattle.campl_tree.specs.declared.service.Side.TheVariants.{Input, Output}
-use Rattle.campl_tree.specs.Plain.ChanType.{ChanType, Put, Get, Tensor, Par, TopBot, Neg, Named}
+use Rattle.campl_tree.specs.Plain.ChanType.{ChanType, TopBot}
 use Rattle.campl_tree.specs.Plain.Decl.{Program}
 use Rattle.campl_tree.specs.Plain.SeqType.{SeqType}
 use Rattle.campl_tree.specs.Plain.Pattern.{Pattern}
@@ -17,9 +16,8 @@ use Rattle.campl_machine.specs.Machine.{Does, looked}
 use Rattle.campl_machine.proofs.Same.{same_end-is, same_end-refl}
 use Rattle.campl_machine.proofs.Updates.{split}
 use Rattle.campl_types.specs.Names.{Name, same_name, found, is_among, are_distinct}
-use Rattle.campl_types.specs.Substitution.{list_of}
-use Rattle.campl_types.specs.World.{World, TypeEntry, DataType, ProtocolType, CoprotocolType, type_named, world_of}
-use Rattle.campl_types.specs.Polarity.{Ends, deed, of_named}
+use Rattle.campl_types.specs.World.{World, world_of}
+use Rattle.campl_types.specs.Polarity.{Ends, deed}
 use Rattle.campl_types.specs.Fits.{Vars}
 use Rattle.campl_types.specs.Held.{On, Held, HoldsOnly}
 use Rattle.campl_types.specs.Matching.{Bindings, first_match}
