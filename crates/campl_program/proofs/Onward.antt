@@ -1,0 +1,72 @@
+-- The tests of jumps say what the definitions say.
+use Rattle.std.proofs.Common.{◌≡◌, ◌∙◌, ap, sym, refl, ℕ, zero, suc, ◌+◌, Bool, true, false, List, [], ◌∷◌, ◌++◌, Some}
+use Rattle.std.specs.Prelude.{◌&&◌, slice_get}
+use Rattle.std.proofs.lemmas.Bool.{ltb-true}
+use Rattle.campl_code.specs.Instructions as i
+use Rattle.campl_code.specs.Instructions.{Instr, Block, Code, blocks}
+use Rattle.campl_code.specs.Forward.{AllAbove, Ahead, AllAhead, IsForward}
+use Rattle.campl_program.specs.Onward.{all_above, jumps_onward, all_onward, blocks_onward}
+
+first : (a b : Bool) → (a && b) ≡ true → a ≡ true
+first true b e = refl
+first false b e = e
+
+second : (a b : Bool) → (a && b) ≡ true → b ≡ true
+second true b e = e
+second false b e = absurd cc
+
+above : (p : ℕ) (ns : List ℕ) → all_above p ns ≡ true → AllAbove p ns
+above p [] e = tt
+above p (n ∷ ns) e = (ltb-true p n (first _ _ e), above p ns (second _ _ e))
+
+ahead : (p : ℕ) (x : Instr) → jumps_onward p x ≡ true → Ahead p x
+ahead p (i.Jump to) e = ltb-true p to e
+ahead p (i.Unless to) e = ltb-true p to e
+ahead p (i.Match m v rows) e = above p rows e
+ahead p (i.Int x) e = tt
+ahead p (i.Char c) e = tt
+ahead p (i.Truth b) e = tt
+ahead p i.Nil e = tt
+ahead p (i.Text text) e = tt
+ahead p (i.Load v) e = tt
+ahead p i.Cons e = tt
+ahead p i.Pair e = tt
+ahead p (i.Build c n) e = tt
+ahead p (i.Op op) e = tt
+ahead p (i.Call g) e = tt
+ahead p i.Return e = tt
+ahead p (i.Case m v rows) e = tt
+ahead p (i.Put c) e = tt
+ahead p (i.Get c v) e = tt
+ahead p (i.Pick c n) e = tt
+ahead p (i.Split c a b) e = tt
+ahead p (i.Close c) e = tt
+ahead p (i.Offer c rows) e = tt
+ahead p (i.Fork c a b to) e = tt
+ahead p (i.Halt c) e = tt
+ahead p (i.Link c d) e = tt
+ahead p (i.LinkNeg c d) e = tt
+ahead p (i.Peel c side to) e = tt
+ahead p (i.Race rows) e = tt
+ahead p (i.Go q channels) e = tt
+
+all-ahead : (p : ℕ) (code : List Instr) → all_onward p code ≡ true → AllAhead p code
+all-ahead p [] e = tt
+all-ahead p (x ∷ code) e = (ahead p x (first _ _ e), all-ahead (p + 1) code (second _ _ e))
+
+block-ahead : (bs : List Block) → blocks_onward bs ≡ true → (n : ℕ) (b : Block) → slice_get bs n ≡ Some b → AllAhead 0 b.code
+block-ahead [] e n b h = absurd cc
+block-ahead (c ∷ bs) e zero b h = let s : c ≡ b = cc in rw (sym s) (all-ahead 0 c.code (first _ _ e))
+block-ahead (c ∷ bs) e (suc n) b h = block-ahead bs (second _ _ e) n b h
+
+-- each jump leads onward
+pub onward-forward : (code : Code) → blocks_onward (blocks code) ≡ true → IsForward code
+onward-forward code e = block-ahead (blocks code) e
+
+pub both-onward : (xs ys : List Block) → blocks_onward (xs ++ ys) ≡ (blocks_onward xs && blocks_onward ys)
+both-onward [] ys = refl
+both-onward (x ∷ xs) ys = ap (λ b. all_onward 0 x.code && b) (both-onward xs ys) ∙ assoc (all_onward 0 x.code) (blocks_onward xs) (blocks_onward ys)
+  where
+    assoc : (a b c : Bool) → (a && (b && c)) ≡ ((a && b) && c)
+    assoc true b c = refl
+    assoc false b c = refl
