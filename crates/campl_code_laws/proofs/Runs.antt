@@ -17,7 +17,8 @@ use Rattle.campl_meaning.specs.Start.{start}
 use Rattle.campl_code.specs.Instructions.{Code}
 use Rattle.campl_code_bodies.specs.Bodies.{StandsFor}
 use Rattle.campl_meaning.specs.Reductions.{Configuration, Event}
-use Rattle.campl_meaning.proofs.Run.{none-behind, run-is}
+use Rattle.campl_meaning.proofs.Run.{run-is}
+use Rattle.campl_types.proofs.DeclaredOnce.{no-second}
 use Rattle.campl_code_bodies.specs.Runs.{Steps, SourceGoes, CodeGoes}
 use Rattle.campl_code_bodies.proofs.Runs.{code-goes, source-goes}
 use Rattle.campl_code_bodies.specs.Running.{CodeConfiguration, Stand, code_start, starts_in, starts_at, code_begins}
@@ -45,7 +46,7 @@ module _ (source : Program) (accepted : IsAccepted source) (code : Code) (standi
   -- code that stands for the source begins as it does
   pub code-begins : (scripts : List Lines) → (c : CodeConfiguration) × (code_begins w code scripts ≡ Some c) × Stand w code c (start w scripts)
   code-begins scripts =
-      let declared : run_faults w ≡ [] = none-behind (twice_faults source ++ each (in_decl w) source) (run_faults w) accepted.typed.declared in
+      let declared : run_faults w ≡ [] = no-second (twice_faults source ++ each (in_decl w) source) (run_faults w) accepted.typed.declared in
       let (d, named, alone) = run-is w declared in
       let typed = process-typed source accepted.typed (codes "run") d named in
       let none : d.row.variables ≡ [] = no-variables d.row.variables d.parameters typed.1 (no-parameters d alone) in

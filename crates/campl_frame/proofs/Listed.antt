@@ -11,7 +11,7 @@ use Rattle.campl_meaning.specs.Bodies.{without_end}
 use Rattle.campl_meaning.specs.Apart.{end_names}
 use Rattle.campl_meaning.proofs.Holding.{found-named}
 use Rattle.campl_peel.proofs.Terms.{found-those}
-use Rattle.campl_types.proofs.Truth.{or-first, or-second, or-split, not-true}
+use Rattle.campl_types.proofs.Truth.{or-first, or-second, or-split, not-true, as-false}
 use Rattle.campl_peel.proofs.Standing.{and-both}
 
 -- whether an end stands in a list
@@ -81,10 +81,6 @@ among-kept keep (e ∷ es) x i = elim (split (keep e.0)) [
   | inr k ↦ let j : is_among x (end_names (those keep es)) ≡ true = rw k at i in or-second (same_name x e.0) (is_among x (end_names es)) (among-kept keep es x j)
 ]
 
-false-if : (a : Bool) → (a ≡ true → ⊥) → a ≡ false
-false-if true h = absurd (h refl)
-false-if false h = refl
-
 distinct-more : (x : Name) (xs : List Name) → is_among x xs ≡ false → are_distinct xs ≡ true → are_distinct (x ∷ xs) ≡ true
 distinct-more x xs i j = rw (i, j) refl
 
@@ -95,7 +91,7 @@ distinct-those keep (e ∷ es) d =
     elim (split (keep e.0)) [
       | inl k ↦
           rw k (distinct-more e.0 (end_names (those keep es))
-          (false-if (is_among e.0 (end_names (those keep es))) (λ t. true≢false (sym (among-kept keep es e.0 t) ∙ not-true (is_among e.0 (end_names es)) b.0)))
+          (as-false (is_among e.0 (end_names (those keep es))) (λ t. true≢false (sym (among-kept keep es e.0 t) ∙ not-true (is_among e.0 (end_names es)) b.0)))
           (distinct-those keep es b.1))
       | inr k ↦ rw k (distinct-those keep es b.1)
     ]

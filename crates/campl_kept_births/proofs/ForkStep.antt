@@ -29,11 +29,12 @@ use Rattle.campl_meaning.specs.Lawful.{Channels, IsTypedAt, Lawful}
 use Rattle.campl_meaning.proofs.Finite.{finite-of, finite-kept}
 use Rattle.campl_meaning.proofs.Pairs.{carried-right}
 use Rattle.campl_meaning.proofs.Holding.{held-end}
+use Rattle.campl_meaning.proofs.Graphs.{same_node, nodes-apart}
 use Rattle.campl_peel.proofs.Peeling.{none-or}
 use Rattle.campl_frame.proofs.Listed.{some-is, lists, IsTidy}
 use Rattle.campl_kept_births.proofs.Sent.{carried-either, not-filled}
 use Rattle.campl_kept_births.proofs.Hands.{Hands, at-other, at-own, at-kin, lawful-after}
-use Rattle.campl_kept_births.proofs.Masks.{ends-apart, nodes-apart, same_node, masked, standing-some, standing-none, mask, unmask, at-holder, at-pair, node-at, node-in, node-gone, owes-last}
+use Rattle.campl_kept_births.proofs.Masks.{ends-apart, masked, standing-some, standing-none, mask, unmask, at-holder, at-pair, node-at, node-in, node-gone, owes-last}
 use Rattle.campl_kept_births.proofs.Newborn.{names-kept, born-fresh, own-place, no-child-yet, child-not, family, parent-there, child-there, others-there}
 use Rattle.campl_kept_births.proofs.ForkEnds.{Forking}
 use Rattle.campl_kept_births.proofs.ForkEnds.{a1 as a1_of, a2 as a2_of, b1 as b1_of, b2 as b2_of, drop as drop_of, r2 as r2_of, r3 as r3_of, move as move_of, d as d_of, channel2 as channel2_of, remains as remains_of, Off as Off_of, a1-a2, a1-b1, a1-b2, a2-b1, a2-b2, b1-b2, which, old, partner-a1, partner-a2, partner-b1, partner-b2, partner-old, partner-one, wired, channel-end, channel-a1, channel-b1, channel-old, seen-old, owed-end, owed-old, remains-end, remains-a2, remains-b2, remains-old}

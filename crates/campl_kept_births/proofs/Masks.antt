@@ -75,26 +75,6 @@ node-gone pl e ms i o = rw (i, o) refl
 pub node-nowhere : (pl : Place) (e : End) (ms : List Message) → pl ≡ Gone → owes_pair ms ≡ false → node_of pl e ms ≡ None
 node-nowhere pl e ms i o = rw (i, o) refl
 
--- two nodes are the same
-abbrev pub same_node : Node → Node → Bool
-same_node (Holder v) (Holder u) = same_who v u
-same_node (Pair e) (Pair f) = same_end e f
-same_node (Holder v) (Pair f) = false
-same_node (Pair e) (Holder u) = false
-
-node-is : (a b : Node) → same_node a b ≡ true → a ≡ b
-node-is (Holder v) (Holder u) i = ap Holder (same_who-is v u i)
-node-is (Pair e) (Pair f) i = ap Pair (same_end-is e f i)
-node-is (Holder v) (Pair f) i = absurd (cc i)
-node-is (Pair e) (Holder u) i = absurd (cc i)
-
-node-own : (a : Node) → same_node a a ≡ true
-node-own (Holder v) = same_who-refl v
-node-own (Pair e) = same_end-refl e
-
-pub nodes-apart : TellsApart same_node
-nodes-apart = record { is = node-is; own = node-own }
-
 -- Pairs in lists of messages
 
 pub owes-last : (ms : List Message) (a b : End) → owes_pair (ms ++ (EndPair a b ∷ [])) ≡ true

@@ -24,14 +24,10 @@ use Rattle.campl_meaning.specs.Reductions.{Configuration, act_of}
 use Rattle.campl_meaning.specs.Views.{view_in, TakesAll}
 use Rattle.campl_meaning.specs.Apart.{At, IsJoined, IsAtMost, IsNamed, number_in_end}
 use Rattle.campl_meaning.specs.Lawful.{Channels, seen, Agree, Lawful}
+use Rattle.campl_meaning.proofs.Named.{longer}
 use Rattle.campl_peel.proofs.Peeling.{none-or}
 
 -- Names
-
--- a child's path isn't its parent's
-longer : (p : Path) (b : Birth) → p ++ (b ∷ []) ≢ p
-longer [] b i = cc i
-longer (a ∷ p) b i = longer p b (cc i)
 
 at-most : (o : Option ℕ) (k n : ℕ) → o ≡ Some k → IsAtMost o n → k ≤ n
 at-most o k n e h = subst (λ z. IsAtMost z n) e h

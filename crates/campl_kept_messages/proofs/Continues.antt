@@ -10,6 +10,7 @@ use Rattle.campl_meaning.specs.States.{Message, Running, Attending, State, Runs,
 use Rattle.campl_meaning.specs.Reductions.{Configuration}
 use Rattle.campl_meaning.specs.Apart.{At, IsJoined, IsOfKind, end_names}
 use Rattle.campl_meaning.specs.Lawful.{Lawful}
+use Rattle.campl_meaning.proofs.Phases.{is_open, open-kept}
 use Rattle.campl_frame.specs.Frame.{Holds}
 use Rattle.campl_frame.proofs.Alone.{alone}
 
@@ -20,12 +21,6 @@ Continues (Serves a) (Serves b) = (b.end ≡ a.end) × (a.serving.phase ≢ phas
 Continues (Runs r) (Serves b) = ⊥
 Continues (Serves a) (Runs t) = ⊥
 
-abbrev pub is_open : Phase → Bool
-is_open phase.Pick = true
-is_open phase.Text = true
-is_open phase.Send = true
-is_open phase.Closed = false
-
 -- whether its ends stay with it
 abbrev pub keeps_ends : State → Bool
 keeps_ends (Runs r) = true
@@ -34,12 +29,6 @@ keeps_ends (Serves a) = is_open a.serving.phase
 -- c after the node who went on as s2, with this owed
 abbrev pub gone_on : Configuration → Who → State → (End → List Message) → Configuration
 gone_on c who s2 owed2 = record { nodes = alone c.nodes who (Some s2); partner = c.partner; owed = owed2 }
-
-pub open-kept : (ph : Phase) → ph ≢ phase.Closed → is_open ph ≡ true
-open-kept phase.Pick n = refl
-open-kept phase.Text n = refl
-open-kept phase.Send n = refl
-open-kept phase.Closed n = absurd (n refl)
 
 kept-open : (ph : Phase) → is_open ph ≡ true → ph ≢ phase.Closed
 kept-open ph o k = true≢false (sym o ∙ ap is_open k)

@@ -28,7 +28,8 @@ use Rattle.campl_frame.proofs.Alone.{IsOneOf, alone-here, alone-others, alone-wh
 use Rattle.campl_frame.proofs.Leaving.{leaving, stays-put, stays-kept, goes-unkept, was-put, was-gone, leaving-forest}
 use Rattle.campl_frame.proofs.Stays.{carries}
 use Rattle.campl_frame.proofs.Frame.{local-lawful}
-use Rattle.campl_kept_messages.proofs.Continues.{Continues, is_open, keeps_ends, gone_on, of-kind, went-on, held-before, held-after, one-end, end-stood, own-names, own-once, own-type}
+use Rattle.campl_meaning.proofs.Phases.{is_open}
+use Rattle.campl_kept_messages.proofs.Continues.{Continues, keeps_ends, gone_on, of-kind, went-on, held-before, held-after, one-end, end-stood, own-names, own-once, own-type}
 use Rattle.campl_kept_messages.proofs.Letters.{SamePairs}
 
 -- A new channel at one end

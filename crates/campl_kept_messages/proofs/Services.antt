@@ -33,7 +33,8 @@ use Rattle.campl_meaning.specs.Reductions.{Configuration, act_of}
 use Rattle.campl_meaning.specs.Views.{view_of, view_in, Takes, TakesAll}
 use Rattle.campl_meaning.specs.Apart.{At, IsJoined}
 use Rattle.campl_meaning.specs.Lawful.{seen, Agree, IsInPhase, own_chan, taking, sending, service_side, phase_type, Lawful}
-use Rattle.campl_kept_messages.proofs.Continues.{is_open, gone_on}
+use Rattle.campl_meaning.proofs.Phases.{is_open}
+use Rattle.campl_kept_messages.proofs.Continues.{gone_on}
 use Rattle.campl_kept_messages.proofs.Frame.{renewed, new-here}
 use Rattle.campl_kept_messages.proofs.Passing.{MaySend, MayTake, IsChoice, may-put, may-get, may-offer, send-lawful, take-lawful}
 use Rattle.campl_types.specs.Values.{IsValue}

@@ -37,7 +37,8 @@ use Rattle.campl_meaning.specs.Start.{half, near, far, wires, holding, kind_at, 
 use Rattle.campl_meaning.specs.Views.{view_in}
 use Rattle.campl_meaning.specs.Apart.{Place, At, In, Gone, IsPlaced, IsJoined, IsHeldBy, IsServedBy, IsNamed, IsAtMost, number_after, number_in_end, IsOfKind, Node, Holder, node_of, graph, end_names}
 use Rattle.campl_meaning.specs.Lawful.{IsAccepted, Channels, seen, IsTypedAt, Agree, AreLastPairs, IsInPhase, service_side, Lawful}
-use Rattle.campl_meaning.proofs.Run.{none-behind, run-is}
+use Rattle.campl_meaning.proofs.Run.{run-is}
+use Rattle.campl_types.proofs.DeclaredOnce.{no-second}
 use Rattle.campl_kept_quiet.specs.Quiet.{IsAlike}
 use Rattle.campl_kept_quiet.proofs.Alike.{alike-itself, alike-seen, alike-on}
 use Rattle.campl_kept_quiet.proofs.Handed.{distinct-right, Among, found-among, among-found, one-name, Fit, retyped, retyped-alike, listed, held-is}
@@ -421,6 +422,6 @@ start_of o ys scripts = record {
 -- so the start of an accepted source is lawful
 pub begins : (source : Program) (scripts : List Lines) → IsAccepted source → Lawful source (start (world_of source) scripts)
 begins source scripts accepted =
-    let faults : run_faults (world_of source) ≡ [] = none-behind (twice_faults source ++ each (in_decl (world_of source)) source) (run_faults (world_of source)) accepted.typed.declared in
+    let faults : run_faults (world_of source) ≡ [] = no-second (twice_faults source ++ each (in_decl (world_of source)) source) (run_faults (world_of source)) accepted.typed.declared in
     let (q, q-is, alone) = run-is (world_of source) faults in
     subst (Lawful source) (sym (ap₂ (λ o ys. start_of o ys scripts) q-is (services-are (world_of source) q q-is))) (lawful-start source accepted q q-is alone scripts)

@@ -64,7 +64,7 @@ to-child (z ∷ q) (y ∷ p) x n = elim (split (same_birth z y)) [
 ]
 
 -- a child's path isn't its parent's
-longer : (p : Path) (x : Birth) → p ++ (x ∷ []) ≢ p
+pub longer : (p : Path) (x : Birth) → p ++ (x ∷ []) ≢ p
 longer [] x i = absurd (cc i)
 longer (y ∷ p) x i = longer p x (cc i)
 

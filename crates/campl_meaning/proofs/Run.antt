@@ -2,14 +2,8 @@
 use Rattle.std.proofs.Common.{◌≡◌, refl, Bool, true, false, List, [], ◌∷◌, ◌++◌, Option, Some, None}
 use Rattle.std.specs.Prelude.{codes}
 use Rattle.campl_tree.specs.Plain.Decl.{ProcessDecl}
-use Rattle.campl_types.specs.declared.fault.NameFault.{NameFault}
 use Rattle.campl_types.specs.World.{World, process_named}
 use Rattle.campl_types.specs.Run.{run_faults, has_services_alone}
-
--- no faults behind others
-pub none-behind : (xs ys : List NameFault) → xs ++ ys ≡ [] → ys ≡ []
-none-behind [] ys i = i
-none-behind (x ∷ xs) ys i = absurd (cc i)
 
 pub run-is : (w : World) → run_faults w ≡ [] → (q : ProcessDecl) × (process_named w (codes "run") ≡ Some q) × (has_services_alone q ≡ true)
 run-is w i = go (process_named w (codes "run")) refl

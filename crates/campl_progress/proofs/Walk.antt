@@ -19,40 +19,11 @@ use Rattle.campl_meaning.specs.Views.{TakesAll}
 use Rattle.campl_meaning.specs.Apart.{Place, At, In, Gone, IsJoined, IsOfKind, Node, Holder, Pair, owes_pair, node_of, graph}
 use Rattle.campl_meaning.specs.Lawful.{Lawful, Agree, seen}
 use Rattle.campl_meaning.proofs.Pairs.{the-pair, carried-owes}
+use Rattle.campl_meaning.proofs.Graphs.{same_node, nodes-apart}
+use Rattle.campl_meaning.proofs.Phases.{is_open, open-kept}
 use Rattle.campl_progress.proofs.Waits.{Waits, not-both-wait, takes-waits, still, IsOver, over-is-still, over-turned}
 use Rattle.campl_progress.proofs.Acts.{IsReceipt, Answers}
 use Rattle.campl_progress.proofs.Takes.{MayStand, MayBreak, may, node-answers, takes-first}
-
--- Nodes of the graph
-
-abbrev same_node : Node → Node → Bool
-same_node (Holder u) (Holder v) = same_who u v
-same_node (Pair e) (Pair f) = same_end e f
-same_node (Holder u) (Pair f) = false
-same_node (Pair e) (Holder v) = false
-
-same-node-is : (u v : Node) → same_node u v ≡ true → u ≡ v
-same-node-is (Holder u) (Holder v) i = ap Holder (same_who-is u v i)
-same-node-is (Pair e) (Pair f) i = ap Pair (same_end-is e f i)
-same-node-is (Holder u) (Pair f) i = absurd (true≢false (sym i))
-same-node-is (Pair e) (Holder v) i = absurd (true≢false (sym i))
-
-same-node-own : (u : Node) → same_node u u ≡ true
-same-node-own (Holder u) = same_who-refl u
-same-node-own (Pair e) = same_end-refl e
-
--- an open service, or a process
-abbrev is_open : Phase → Bool
-is_open phase.Pick = true
-is_open phase.Text = true
-is_open phase.Send = true
-is_open phase.Closed = false
-
-open-if : (ph : Phase) → ph ≢ phase.Closed → is_open ph ≡ true
-open-if phase.Pick n = refl
-open-if phase.Text n = refl
-open-if phase.Send n = refl
-open-if phase.Closed n = absurd (n refl)
 
 abbrev is_there : Option State → Bool
 is_there None = false
@@ -159,7 +130,7 @@ module _ (source : Program) (c : Configuration) (l : Lawful source c) (quiet : I
 
   holder-there : (who : Who) (e : End) → IsJoined c e → l.place e ≡ At who → is_there (c.nodes who) ≡ true
   holder-there (Process p) e j i = let (r, x, is, f) = l.apart.placed.holder p e j i in rw is refl
-  holder-there (Service n) e j i = let (s, is, same, not_closed) = l.apart.placed.server n e j i in rw is (open-if s.serving.phase not_closed)
+  holder-there (Service n) e j i = let (s, is, same, not_closed) = l.apart.placed.server n e j i in rw is (open-kept s.serving.phase not_closed)
 
   node-there : (e : End) → IsJoined c e → (IsOver (l.channel e) → ⊥) → (v : Node) × (g.at e ≡ Some v) × (there v ≡ true)
   node-there e j not_over = go (l.place e) refl
@@ -318,8 +289,7 @@ module _ (source : Program) (c : Configuration) (l : Lawful source c) (quiet : I
   walk : HasProcess c → ((p : Path) × IsBrokenAt w c p) ⊎ ((n : ℕ) × IsAsked c n)
   walk (p, s, is) =
       let tells_ends : TellsApart same_end = record { is = same_end-is; own = same_end-refl } in
-      let tells_nodes : TellsApart same_node = record { is = same-node-is; own = same-node-own } in
-      let (v, tv, pv) = some-stops same_end same_node tells_ends tells_nodes g all_nodes there point points l.apart.forest (Holder (Process p)) (rw is (runs s (l.apart.placed.kinds (Process p) s is))) in
+      let (v, tv, pv) = some-stops same_end same_node tells_ends nodes-apart g all_nodes there point points l.apart.forest (Holder (Process p)) (rw is (runs s (l.apart.placed.kinds (Process p) s is))) in
       ends-here v tv pv
     where
       runs : (s : State) → IsOfKind (Process p) s → is_there (Some s) ≡ true
