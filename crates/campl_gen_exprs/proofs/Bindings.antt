@@ -24,7 +24,7 @@ same-bound s m n ms ns i j = ap (λ k. record s { free = k; numbers = ms }) i �
 pub bound-more : (xs ys : List Name) (s : Emission) → bound (xs ++ ys) s ≡ bound ys (bound xs s)
 bound-more xs ys s =
     same-bound s (s.free + length (xs ++ ys)) (s.free + length xs + length ys) (numbered s.free (xs ++ ys) s.numbers) (numbered (s.free + length xs) ys (numbered s.free xs s.numbers))
-        (omega (arith, length-append xs ys)) (numbered-more s.free xs ys s.numbers)
+    (omega (arith, length-append xs ys)) (numbered-more s.free xs ys s.numbers)
 
 pub bound-none : (s : Emission) → bound [] s ≡ s
 bound-none s = same-bound s (s.free + 0) s.free s.numbers s.numbers (omega arith) refl

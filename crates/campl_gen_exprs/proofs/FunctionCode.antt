@@ -76,7 +76,7 @@ rows-are w (r ∷ rows) c d =
     let rest : ℕ → List Instr = λ n. function_rows_code w rows n (d + cases_in r.value) in
     ap (function_rows_emitted w rows) (row-is w r c d) ∙ rows-are w rows (c ++ x) (d + cases_in r.value)
     ∙ same-bare ((c ++ x) ++ rest (length (c ++ x))) (c ++ (x ++ rest (length c + length x))) (d + cases_in r.value + cases_in_function_rows rows) (d + (cases_in r.value + cases_in_function_rows rows))
-        (ap (λ n. (c ++ x) ++ rest n) (length-append c x) ∙ append_assoc c x (rest (length c + length x))) (omega arith)
+    (ap (λ n. (c ++ x) ++ rest n) (length-append c x) ∙ append_assoc c x (rest (length c + length x))) (omega arith)
 
 places-are : (w : World) (rows : List FunctionRow) (c : List Instr) (d : ℕ) → function_row_places w rows (bare c d) ≡ function_places w rows (length c) d
 places-are w [] c d = refl
@@ -84,7 +84,7 @@ places-are w (r ∷ rows) c d =
     let xs = bound_in_all r.patterns in
     let x = code_of w true r.value (length c) d (length xs) (numbered 0 xs []) in
     ap (λ l. length c ∷ l) (ap (function_row_places w rows) (row-is w r c d) ∙ places-are w rows (c ++ x) (d + cases_in r.value)
-        ∙ ap (λ n. function_places w rows n (d + cases_in r.value)) (length-append c x))
+    ∙ ap (λ n. function_places w rows n (d + cases_in r.value)) (length-append c x))
 
 -- a function's code, and how many decisions it takes
 pub function-is : (w : World) (f : FunctionDecl) (dec : ℕ) → function_emitted w (length f.parameters) f.rows (fresh dec) ≡ bare (function_code w f dec) (dec + cases_in_function f)
@@ -97,7 +97,7 @@ function-is w f dec =
     let long : length c ≡ n + 1 = length-append loads (i.Nil ∷ []) ∙ ap (λ k. k + 1) (loads-length 0 n) in
     ap (λ u. replaced (length loads) m u) (rows-are w f.rows c (dec + 1))
     ∙ same-bare (slice_set (c ++ behind (length c)) (length loads) m) (function_code w f dec) (dec + 1 + cases_in_function_rows f.rows) (dec + (1 + cases_in_function_rows f.rows))
-        (ap (λ l. slice_set l (length loads) m) (append_assoc loads (i.Nil ∷ []) (behind (length c)))
-        ∙ set-at loads (behind (length c)) i.Nil m
-        ∙ ap (λ l. loads ++ (i.Match dec 0 l ∷ behind (length c))) (places-are w f.rows c (dec + 1))
-        ∙ ap (λ k. loads ++ (i.Match dec 0 (function_places w f.rows k (dec + 1)) ∷ behind k)) long) (omega arith)
+    (ap (λ l. slice_set l (length loads) m) (append_assoc loads (i.Nil ∷ []) (behind (length c)))
+    ∙ set-at loads (behind (length c)) i.Nil m
+    ∙ ap (λ l. loads ++ (i.Match dec 0 l ∷ behind (length c))) (places-are w f.rows c (dec + 1))
+    ∙ ap (λ k. loads ++ (i.Match dec 0 (function_places w f.rows k (dec + 1)) ∷ behind k)) long) (omega arith)

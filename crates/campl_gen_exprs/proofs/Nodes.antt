@@ -43,20 +43,20 @@ leaf : (w : World) (tail : Bool) (a : e.Expr) (x : Instr) (s : Emission)
 unfolding emitted
 leaf w tail a x s h k =
     same s (s.code ++ code_of w tail a (length s.code) s.decisions s.free s.numbers) (s.code ++ (x ∷ last tail)) (s.decisions + cases_in a) s.decisions
-        (ap (λ l. s.code ++ l) h) (ap (λ n. s.decisions + n) k ∙ sym (none-more s.decisions))
+    (ap (λ l. s.code ++ l) h) (ap (λ n. s.decisions + n) k ∙ sym (none-more s.decisions))
 
 two : (w : World) (tail : Bool) (a b : e.Expr) (op : Instr) (s : Emission) → emitted_two w a b op tail s
     ≡ record s {
-        code = s.code ++ (code_of w false a (length s.code) s.decisions s.free s.numbers
-            ++ (code_of w false b (length s.code + length (code_of w false a (length s.code) s.decisions s.free s.numbers)) (s.decisions + cases_in a) s.free s.numbers ++ (op ∷ last tail)));
-        decisions = s.decisions + (cases_in a + cases_in b);
-      }
+      code = s.code ++ (code_of w false a (length s.code) s.decisions s.free s.numbers
+          ++ (code_of w false b (length s.code + length (code_of w false a (length s.code) s.decisions s.free s.numbers)) (s.decisions + cases_in a) s.free s.numbers ++ (op ∷ last tail)));
+      decisions = s.decisions + (cases_in a + cases_in b);
+    }
 unfolding emitted
 two w tail a b op s =
     let x = code_of w false a (length s.code) s.decisions s.free s.numbers in
     let q : ℕ → List Instr = λ n. code_of w false b n (s.decisions + cases_in a) s.free s.numbers in
     same s (((s.code ++ x) ++ q (length (s.code ++ x))) ++ (op ∷ last tail)) (s.code ++ (x ++ (q (length s.code + length x) ++ (op ∷ last tail))))
-        (s.decisions + cases_in a + cases_in b) (s.decisions + (cases_in a + cases_in b)) (two-code s.code x q (op ∷ last tail)) (omega arith)
+    (s.decisions + cases_in a + cases_in b) (s.decisions + (cases_in a + cases_in b)) (two-code s.code x q (op ∷ last tail)) (omega arith)
 
 one : (w : World) (tail : Bool) (a : e.Expr) (op : Instr) (s : Emission) → emitted_one w a op tail s
     ≡ record s { code = s.code ++ (code_of w false a (length s.code) s.decisions s.free s.numbers ++ (op ∷ last tail)); decisions = s.decisions + cases_in a }
@@ -74,14 +74,14 @@ over w tail args x s =
 
 listed : (w : World) (tail : Bool) (items : Exprs) (s : Emission) → emitted_list w items tail s
     ≡ record s {
-        code = s.code ++ (code_of_all w items (length s.code) s.decisions s.free s.numbers ++ (i.Nil ∷ conses_code (count items) tail));
-        decisions = s.decisions + cases_in_all items;
-      }
+      code = s.code ++ (code_of_all w items (length s.code) s.decisions s.free s.numbers ++ (i.Nil ∷ conses_code (count items) tail));
+      decisions = s.decisions + cases_in_all items;
+    }
 unfolding emitted_all
 listed w tail items s =
     let y = code_of_all w items (length s.code) s.decisions s.free s.numbers in
     ap (λ l. record s { code = l; decisions = s.decisions + cases_in_all items })
-        (append_assoc (s.code ++ y) (i.Nil ∷ []) (conses_code (count items) tail) ∙ append_assoc s.code y (i.Nil ∷ conses_code (count items) tail))
+    (append_assoc (s.code ++ y) (i.Nil ∷ []) (conses_code (count items) tail) ∙ append_assoc s.code y (i.Nil ∷ conses_code (count items) tail))
 
 if-is : (w : World) (tail : Bool) (at : Place) (a b c : e.Expr) (s : Emission) → emitted w tail (e.If at a b c) s ≡ emitted_if w a b c tail s
 unfolding emitted
@@ -95,8 +95,8 @@ if-is w tail at a b c s =
     let l4 = l3 ++ past tail 0 in
     let l5 = l4 ++ q (length l4) in
     sym (same s (written tail (slice_set l5 (length l1) (i.Unless (length l4))) (length l3) (length l5)) (s.code ++ code_of w tail (e.If at a b c) (length s.code) s.decisions s.free s.numbers)
-        (s.decisions + cases_in a + cases_in b + cases_in c) (s.decisions + (cases_in a + cases_in b + cases_in c))
-        (if-code tail s.code z p q l1 l2 l3 l4 l5 refl refl refl refl refl) (omega arith))
+    (s.decisions + cases_in a + cases_in b + cases_in c) (s.decisions + (cases_in a + cases_in b + cases_in c))
+    (if-code tail s.code z p q l1 l2 l3 l4 l5 refl refl refl refl refl) (omega arith))
 
 and-is : (w : World) (tail : Bool) (at : Place) (a b : e.Expr) (s : Emission) → emitted w tail (e.And at a b) s ≡ emitted_and w a b tail s
 unfolding emitted
@@ -108,7 +108,7 @@ and-is w tail at a b s =
     let l3 = l2 ++ q (length l2) in
     let l4 = l3 ++ tested_code (length l3) tail in
     sym (same s (slice_set l4 (length l1) (i.Unless (length l3 + 3))) (s.code ++ code_of w tail (e.And at a b) (length s.code) s.decisions s.free s.numbers)
-        (s.decisions + cases_in a + cases_in b) (s.decisions + (cases_in a + cases_in b)) (and-code tail s.code z q l1 l2 l3 l4 refl refl refl refl) (omega arith))
+    (s.decisions + cases_in a + cases_in b) (s.decisions + (cases_in a + cases_in b)) (and-code tail s.code z q l1 l2 l3 l4 refl refl refl refl) (omega arith))
 
 or-is : (w : World) (tail : Bool) (at : Place) (a b : e.Expr) (s : Emission) → emitted w tail (e.Or at a b) s ≡ emitted_or w a b tail s
 unfolding emitted
@@ -121,7 +121,7 @@ or-is w tail at a b s =
     let l4 = l3 ++ q (length l3) in
     let l5 = l4 ++ tested_code (length l4) tail in
     sym (same s (written tail l5 (length l2) (length l4 + 4)) (s.code ++ code_of w tail (e.Or at a b) (length s.code) s.decisions s.free s.numbers)
-        (s.decisions + cases_in a + cases_in b) (s.decisions + (cases_in a + cases_in b)) (or-code tail s.code z q l1 l2 l3 l4 l5 refl refl refl refl refl) (omega arith))
+    (s.decisions + cases_in a + cases_in b) (s.decisions + (cases_in a + cases_in b)) (or-code tail s.code z q l1 l2 l3 l4 l5 refl refl refl refl refl) (omega arith))
 
 -- Rows
 
@@ -156,18 +156,18 @@ rows-is w tail (e.expr_row_then p a rows) s =
     let rest : ℕ → List Instr = λ n. code_of_rows w tail rows n (s.decisions + cases_in a) s.free s.numbers 0 in
     ap (rows_emitted w tail rows) (row-is w tail p a s) ∙ rows-is w tail rows v
     ∙ same s (((s.code ++ x) ++ past tail 0) ++ rest (length ((s.code ++ x) ++ past tail 0))) (s.code ++ (x ++ (past tail 0 ++ rest (length s.code + length x + length (past tail 0)))))
-        (s.decisions + cases_in a + cases_in_rows rows) (s.decisions + (cases_in a + cases_in_rows rows))
-        (ap (λ n. ((s.code ++ x) ++ past tail 0) ++ rest n) (row-length tail s.code x)
-        ∙ append_assoc (s.code ++ x) (past tail 0) (rest (length s.code + length x + length (past tail 0)))
-        ∙ append_assoc s.code x (past tail 0 ++ rest (length s.code + length x + length (past tail 0)))) (omega arith)
+    (s.decisions + cases_in a + cases_in_rows rows) (s.decisions + (cases_in a + cases_in_rows rows))
+    (ap (λ n. ((s.code ++ x) ++ past tail 0) ++ rest n) (row-length tail s.code x)
+    ∙ append_assoc (s.code ++ x) (past tail 0) (rest (length s.code + length x + length (past tail 0)))
+    ∙ append_assoc s.code x (past tail 0 ++ rest (length s.code + length x + length (past tail 0)))) (omega arith)
 
 places-is : (w : World) (tail : Bool) (rows : ExprRows) (s : Emission) → row_places w tail rows s ≡ places_of w tail rows (length s.code) s.decisions s.free s.numbers
 places-is w tail e.no_expr_rows s = refl
 places-is w tail (e.expr_row_then p a rows) s =
     let x = value-code w tail p a s in
     ap (λ l. length s.code ∷ l)
-        (ap (row_places w tail rows) (row-is w tail p a s) ∙ places-is w tail rows (behind-row w tail p a s)
-        ∙ ap (λ n. places_of w tail rows n (s.decisions + cases_in a) s.free s.numbers) (row-length tail s.code x))
+    (ap (row_places w tail rows) (row-is w tail p a s) ∙ places-is w tail rows (behind-row w tail p a s)
+    ∙ ap (λ n. places_of w tail rows n (s.decisions + cases_in a) s.free s.numbers) (row-length tail s.code x))
 
 -- rows that return have no jumps
 returns-so : (w : World) (rows : ExprRows) (base dec free : ℕ) (ns : Numbers) (end : ℕ) → code_of_rows w true rows base dec free ns 0 ≡ code_of_rows w true rows base dec free ns end
@@ -190,15 +190,15 @@ ends-is w (e.expr_row_then p a rows) s before end long =
     let next = (before ++ x) ++ i.Jump end ∷ [] in
     let nv : length v.code ≡ n = row-length false s.code x in
     let set : slice_set (before ++ (x ++ (i.Jump 0 ∷ rest 0))) (length (s.code ++ x)) (i.Jump end) ≡ next ++ rest 0 =
-        ap (λ l. slice_set l (length (s.code ++ x)) (i.Jump end)) (sym (append_assoc before x (i.Jump 0 ∷ rest 0)))
-        ∙ ap (λ k. slice_set ((before ++ x) ++ (i.Jump 0 ∷ rest 0)) k (i.Jump end)) (sym here)
-        ∙ set-at (before ++ x) (rest 0) (i.Jump 0) (i.Jump end) ∙ sym (append_assoc (before ++ x) (i.Jump end ∷ []) (rest 0)) in
+    ap (λ l. slice_set l (length (s.code ++ x)) (i.Jump end)) (sym (append_assoc before x (i.Jump 0 ∷ rest 0)))
+    ∙ ap (λ k. slice_set ((before ++ x) ++ (i.Jump 0 ∷ rest 0)) k (i.Jump end)) (sym here)
+    ∙ set-at (before ++ x) (rest 0) (i.Jump 0) (i.Jump end) ∙ sym (append_assoc (before ++ x) (i.Jump end ∷ []) (rest 0)) in
     let as-long : length next ≡ length v.code =
-        length-append (before ++ x) (i.Jump end ∷ []) ∙ ap (λ k. k + 1) here ∙ sym (length-append (s.code ++ x) (i.Jump 0 ∷ [])) in
+    length-append (before ++ x) (i.Jump end ∷ []) ∙ ap (λ k. k + 1) here ∙ sym (length-append (s.code ++ x) (i.Jump 0 ∷ [])) in
     let later : all_set (row_ends w false rows v) (i.Jump end) (next ++ rest 0) ≡ next ++ rest end =
-        ap (λ k. all_set (row_ends w false rows v) (i.Jump end) (next ++ code_of_rows w false rows k (s.decisions + cases_in a) s.free s.numbers 0)) (sym nv)
-        ∙ ends-is w rows v next end as-long
-        ∙ ap (λ k. next ++ code_of_rows w false rows k (s.decisions + cases_in a) s.free s.numbers end) nv in
+    ap (λ k. all_set (row_ends w false rows v) (i.Jump end) (next ++ code_of_rows w false rows k (s.decisions + cases_in a) s.free s.numbers 0)) (sym nv)
+    ∙ ends-is w rows v next end as-long
+    ∙ ap (λ k. next ++ code_of_rows w false rows k (s.decisions + cases_in a) s.free s.numbers end) nv in
     ap (λ k. all_set (k ∷ row_ends w false rows (appended (past false 0) (row_emitted w false p a s))) (i.Jump end) (before ++ (x ++ (i.Jump 0 ∷ rest 0)))) (row-ends-at w false p a s)
     ∙ ap (λ l. all_set (row_ends w false rows (appended (past false 0) (row_emitted w false p a s))) (i.Jump end) l) set
     ∙ ap (λ u. all_set (row_ends w false rows u) (i.Jump end) (next ++ rest 0)) (row-is w false p a s)
@@ -207,13 +207,13 @@ ends-is w (e.expr_row_then p a rows) s before end long =
 -- behind the rows the jumps lead to the end
 closed-rows : (w : World) (tail : Bool) (rows : ExprRows) (s : Emission) → ends_set tail (row_ends w tail rows s) (rows_emitted w tail rows s)
     ≡ record s {
-        code = s.code ++ code_of_rows w tail rows (length s.code) s.decisions s.free s.numbers (length s.code + length (code_of_rows w tail rows (length s.code) s.decisions s.free s.numbers 0));
-        decisions = s.decisions + cases_in_rows rows;
-      }
+      code = s.code ++ code_of_rows w tail rows (length s.code) s.decisions s.free s.numbers (length s.code + length (code_of_rows w tail rows (length s.code) s.decisions s.free s.numbers 0));
+      decisions = s.decisions + cases_in_rows rows;
+    }
 closed-rows w true rows s =
     rows-is w true rows s
     ∙ ap (λ l. record s { code = s.code ++ l; decisions = s.decisions + cases_in_rows rows })
-        (returns-so w rows (length s.code) s.decisions s.free s.numbers (length s.code + length (code_of_rows w true rows (length s.code) s.decisions s.free s.numbers 0)))
+    (returns-so w rows (length s.code) s.decisions s.free s.numbers (length s.code + length (code_of_rows w true rows (length s.code) s.decisions s.free s.numbers 0)))
 closed-rows w false rows s =
     let made = s.code ++ code_of_rows w false rows (length s.code) s.decisions s.free s.numbers 0 in
     let end = length s.code + length (code_of_rows w false rows (length s.code) s.decisions s.free s.numbers 0) in
@@ -237,13 +237,13 @@ case-is w tail at a rows s =
     let match-at : ℕ → List Instr = λ n. s.code ++ (z ++ (i.Match d s.free (places n) ∷ rows-at n (end n))) in
     let kept : (rows_emitted w tail rows u).free ≡ s.free = ap (λ (c : Emission). c.free) (rows-is w tail rows u) in
     sym (ap (λ n. replaced (length l1) (i.Match d n (row_places w tail rows u)) (ends_set tail (row_ends w tail rows u) (rows_emitted w tail rows u))) kept
-        ∙ ap (λ c. replaced (length l1) (i.Match d s.free (row_places w tail rows u)) c) (closed-rows w tail rows u)
-        ∙ same s (slice_set c1 (length l1) (i.Match d s.free (row_places w tail rows u))) (match-at q) (d + 1 + cases_in_rows rows) (s.decisions + (cases_in a + 1 + cases_in_rows rows))
-            (ap (λ l. slice_set l (length l1) (i.Match d s.free (row_places w tail rows u))) (append_assoc l1 (i.Nil ∷ []) (rows-at (length u.code) (end (length u.code))))
-            ∙ set-at l1 (rows-at (length u.code) (end (length u.code))) i.Nil (i.Match d s.free (row_places w tail rows u))
-            ∙ append_assoc s.code z (i.Match d s.free (row_places w tail rows u) ∷ rows-at (length u.code) (end (length u.code)))
-            ∙ ap (λ l. s.code ++ (z ++ (i.Match d s.free l ∷ rows-at (length u.code) (end (length u.code))))) (places-is w tail rows u)
-            ∙ ap match-at nu) (omega arith))
+    ∙ ap (λ c. replaced (length l1) (i.Match d s.free (row_places w tail rows u)) c) (closed-rows w tail rows u)
+    ∙ same s (slice_set c1 (length l1) (i.Match d s.free (row_places w tail rows u))) (match-at q) (d + 1 + cases_in_rows rows) (s.decisions + (cases_in a + 1 + cases_in_rows rows))
+    (ap (λ l. slice_set l (length l1) (i.Match d s.free (row_places w tail rows u))) (append_assoc l1 (i.Nil ∷ []) (rows-at (length u.code) (end (length u.code))))
+    ∙ set-at l1 (rows-at (length u.code) (end (length u.code))) i.Nil (i.Match d s.free (row_places w tail rows u))
+    ∙ append_assoc s.code z (i.Match d s.free (row_places w tail rows u) ∷ rows-at (length u.code) (end (length u.code)))
+    ∙ ap (λ l. s.code ++ (z ++ (i.Match d s.free l ∷ rows-at (length u.code) (end (length u.code))))) (places-is w tail rows u)
+    ∙ ap match-at nu) (omega arith))
 
 -- Nodes of the trees in memory
 
@@ -348,7 +348,7 @@ then-all w a rest s =
     let x = code_of w false a (length s.code) s.decisions s.free s.numbers in
     let q : ℕ → List Instr = λ n. code_of_all w rest n (s.decisions + cases_in a) s.free s.numbers in
     sym (same s ((s.code ++ x) ++ q (length (s.code ++ x))) (s.code ++ (x ++ q (length s.code + length x))) (s.decisions + cases_in a + cases_in_all rest) (s.decisions + (cases_in a + cases_in_all rest))
-        (ap (λ n. (s.code ++ x) ++ q n) (length-append s.code x) ∙ append_assoc s.code x (q (length s.code + length x))) (omega arith))
+    (ap (λ n. (s.code ++ x) ++ q n) (length-append s.code x) ∙ append_assoc s.code x (q (length s.code + length x))) (omega arith))
 
 pub all-at : (w : World) (s : Emission) (xs : List Expr) (i : ℕ) (x : Expr) → i < length xs → x ≡ get_or xs i x
     → emitted_all w (exprs (map view_expr (drop i xs))) s ≡ emitted_all w (exprs (map view_expr (drop (i + 1) xs))) (emitted w false (view_expr x) s)

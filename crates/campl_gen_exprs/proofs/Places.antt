@@ -35,10 +35,10 @@ pub if-code : (tail : Bool) (old z : List Instr) (p q : ℕ → List Instr) (l1 
     → l1 ≡ old ++ z → l2 ≡ l1 ++ i.Unless 0 ∷ [] → l3 ≡ l2 ++ p (length l2) → l4 ≡ l3 ++ past tail 0 → l5 ≡ l4 ++ q (length l4)
     → written tail (slice_set l5 (length l1) (i.Unless (length l4))) (length l3) (length l5)
     ≡ old ++ (z ++ (i.Unless (length old + length z + 1 + length (p (length old + length z + 1)) + length (past tail 0))
-            ∷ (p (length old + length z + 1)
-            ++ (past tail (length old + length z + 1 + length (p (length old + length z + 1)) + length (past tail 0)
-                + length (q (length old + length z + 1 + length (p (length old + length z + 1)) + length (past tail 0))))
-            ++ q (length old + length z + 1 + length (p (length old + length z + 1)) + length (past tail 0))))))
+    ∷ (p (length old + length z + 1)
+    ++ (past tail (length old + length z + 1 + length (p (length old + length z + 1)) + length (past tail 0)
+    + length (q (length old + length z + 1 + length (p (length old + length z + 1)) + length (past tail 0))))
+    ++ q (length old + length z + 1 + length (p (length old + length z + 1)) + length (past tail 0))))))
 if-code tail old z p q l1 l2 l3 l4 l5 e1 e2 e3 e4 e5 =
     let k = length old + length z + 1 in
     let x = p k in
@@ -52,15 +52,15 @@ if-code tail old z p q l1 l2 l3 l4 l5 e1 e2 e3 e4 e5 =
     let h5 : l5 ≡ l4 ++ y = e5 ∙ ap (λ n. l4 ++ q n) n4 in
     let n5 : length l5 ≡ r + length y = omega (arith, n4, ap length h5 ∙ length-append l4 y) in
     let whole : l5 ≡ l1 ++ (i.Unless 0 ∷ (x ++ (past tail 0 ++ y))) =
-        h5 ∙ ap (λ l. l ++ y) (e4 ∙ ap (λ l. l ++ past tail 0) (h3 ∙ ap (λ l. l ++ x) e2))
-        ∙ append_assoc ((l1 ++ i.Unless 0 ∷ []) ++ x) (past tail 0) y ∙ append_assoc (l1 ++ i.Unless 0 ∷ []) x (past tail 0 ++ y)
-        ∙ append_assoc l1 (i.Unless 0 ∷ []) (x ++ (past tail 0 ++ y)) in
+    h5 ∙ ap (λ l. l ++ y) (e4 ∙ ap (λ l. l ++ past tail 0) (h3 ∙ ap (λ l. l ++ x) e2))
+    ∙ append_assoc ((l1 ++ i.Unless 0 ∷ []) ++ x) (past tail 0) y ∙ append_assoc (l1 ++ i.Unless 0 ∷ []) x (past tail 0 ++ y)
+    ∙ append_assoc l1 (i.Unless 0 ∷ []) (x ++ (past tail 0 ++ y)) in
     let tested : slice_set l5 (length l1) (i.Unless (length l4)) ≡ l1 ++ (i.Unless (length l4) ∷ (x ++ (past tail 0 ++ y))) =
-        set-there l1 (x ++ (past tail 0 ++ y)) l5 (i.Unless 0) (i.Unless (length l4)) (length l1) whole refl in
+    set-there l1 (x ++ (past tail 0 ++ y)) l5 (i.Unless 0) (i.Unless (length l4)) (length l1) whole refl in
     let before = l1 ++ (i.Unless (length l4) ∷ x) in
     let long : length l3 ≡ length before = omega (arith, n1, n3, length-append l1 (i.Unless (length l4) ∷ x)) in
     let apart : slice_set l5 (length l1) (i.Unless (length l4)) ≡ before ++ (past tail 0 ++ y) =
-        tested ∙ sym (append_assoc l1 (i.Unless (length l4) ∷ x) (past tail 0 ++ y)) in
+    tested ∙ sym (append_assoc l1 (i.Unless (length l4) ∷ x) (past tail 0 ++ y)) in
     jump-there tail before y (slice_set l5 (length l1) (i.Unless (length l4))) (length l3) (length l5) apart long
     ∙ append_assoc l1 (i.Unless (length l4) ∷ x) (past tail (length l5) ++ y)
     ∙ ap (λ l. l ++ (i.Unless (length l4) ∷ (x ++ (past tail (length l5) ++ y)))) e1
@@ -74,7 +74,7 @@ pub and-code : (tail : Bool) (old z : List Instr) (q : ℕ → List Instr) (l1 l
     → l1 ≡ old ++ z → l2 ≡ l1 ++ i.Unless 0 ∷ [] → l3 ≡ l2 ++ q (length l2) → l4 ≡ l3 ++ tested_code (length l3) tail
     → slice_set l4 (length l1) (i.Unless (length l3 + 3))
     ≡ old ++ (z ++ (i.Unless (length old + length z + 1 + length (q (length old + length z + 1)) + 3)
-            ∷ (q (length old + length z + 1) ++ tested_code (length old + length z + 1 + length (q (length old + length z + 1))) tail)))
+    ∷ (q (length old + length z + 1) ++ tested_code (length old + length z + 1 + length (q (length old + length z + 1))) tail)))
 and-code tail old z q l1 l2 l3 l4 e1 e2 e3 e4 =
     let k = length old + length z + 1 in
     let x = q k in
@@ -85,8 +85,8 @@ and-code tail old z q l1 l2 l3 l4 e1 e2 e3 e4 =
     let n3 : length l3 ≡ s = omega (arith, n2, ap length h3 ∙ length-append l2 x) in
     let h4 : l4 ≡ l3 ++ tested_code s tail = e4 ∙ ap (λ n. l3 ++ tested_code n tail) n3 in
     let whole : l4 ≡ l1 ++ (i.Unless 0 ∷ (x ++ tested_code s tail)) =
-        h4 ∙ ap (λ l. l ++ tested_code s tail) (h3 ∙ ap (λ l. l ++ x) e2)
-        ∙ append_assoc (l1 ++ i.Unless 0 ∷ []) x (tested_code s tail) ∙ append_assoc l1 (i.Unless 0 ∷ []) (x ++ tested_code s tail) in
+    h4 ∙ ap (λ l. l ++ tested_code s tail) (h3 ∙ ap (λ l. l ++ x) e2)
+    ∙ append_assoc (l1 ++ i.Unless 0 ∷ []) x (tested_code s tail) ∙ append_assoc l1 (i.Unless 0 ∷ []) (x ++ tested_code s tail) in
     set-there l1 (x ++ tested_code s tail) l4 (i.Unless 0) (i.Unless (length l3 + 3)) (length l1) whole refl
     ∙ ap (λ l. l ++ (i.Unless (length l3 + 3) ∷ (x ++ tested_code s tail))) e1
     ∙ append_assoc old z (i.Unless (length l3 + 3) ∷ (x ++ tested_code s tail))
@@ -102,7 +102,7 @@ pub or-code : (tail : Bool) (old z : List Instr) (q : ℕ → List Instr) (l1 l2
     → l1 ≡ old ++ z → l2 ≡ l1 ++ i.Unless (length l1 + 3) ∷ i.Truth true ∷ [] → l3 ≡ l2 ++ leave tail 0 ∷ [] → l4 ≡ l3 ++ q (length l3) → l5 ≡ l4 ++ tested_code (length l4) tail
     → written tail l5 (length l2) (length l4 + 4)
     ≡ old ++ (z ++ (i.Unless (length old + length z + 3) ∷ i.Truth true ∷ leave tail (length old + length z + 3 + length (q (length old + length z + 3)) + 4)
-            ∷ (q (length old + length z + 3) ++ tested_code (length old + length z + 3 + length (q (length old + length z + 3))) tail)))
+    ∷ (q (length old + length z + 3) ++ tested_code (length old + length z + 3 + length (q (length old + length z + 3))) tail)))
 or-code tail old z q l1 l2 l3 l4 l5 e1 e2 e3 e4 e5 =
     let k = length old + length z + 3 in
     let x = q k in
@@ -114,8 +114,8 @@ or-code tail old z q l1 l2 l3 l4 l5 e1 e2 e3 e4 e5 =
     let n4 : length l4 ≡ s = omega (arith, n3, ap length h4 ∙ length-append l3 x) in
     let h5 : l5 ≡ l4 ++ tested_code s tail = e5 ∙ ap (λ n. l4 ++ tested_code n tail) n4 in
     let whole : l5 ≡ l2 ++ (leave tail 0 ∷ (x ++ tested_code s tail)) =
-        h5 ∙ ap (λ l. l ++ tested_code s tail) (h4 ∙ ap (λ l. l ++ x) e3)
-        ∙ append_assoc (l2 ++ leave tail 0 ∷ []) x (tested_code s tail) ∙ append_assoc l2 (leave tail 0 ∷ []) (x ++ tested_code s tail) in
+    h5 ∙ ap (λ l. l ++ tested_code s tail) (h4 ∙ ap (λ l. l ++ x) e3)
+    ∙ append_assoc (l2 ++ leave tail 0 ∷ []) x (tested_code s tail) ∙ append_assoc l2 (leave tail 0 ∷ []) (x ++ tested_code s tail) in
     let behind = λ (n to : ℕ). i.Unless n ∷ i.Truth true ∷ leave tail to ∷ (x ++ tested_code s tail) in
     leave-there tail l2 (x ++ tested_code s tail) l5 (length l2) (length l4 + 4) whole refl
     ∙ ap (λ l. l ++ (leave tail (length l4 + 4) ∷ (x ++ tested_code s tail))) e2

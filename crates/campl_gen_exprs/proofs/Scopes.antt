@@ -78,7 +78,7 @@ popped-first bs rest b i = ap reverse i ∙ last-first rest b
 pub popped-known : (es : List (Name × ℕ)) (bs rest : List Binding) (b : Binding) → bs ≡ rest ++ b ∷ [] → lookup (same_name b.name) es ≡ newest b.name (reverse bs) → IsSome (lookup (same_name b.name) es)
 popped-known es bs rest b i told =
     let is : lookup (same_name b.name) es ≡ Some (length (reverse rest)) =
-        told ∙ ap (newest b.name) (popped-first bs rest b i) ∙ ap (λ t. cond t (Some (length (reverse rest))) (newest b.name (reverse rest))) (same-itself b.name) in
+    told ∙ ap (newest b.name) (popped-first bs rest b i) ∙ ap (λ t. cond t (Some (length (reverse rest))) (newest b.name (reverse rest))) (same-itself b.name) in
     subst (λ (o : Option ℕ). IsSome o) (sym is) refl
 
 pub popped-told : (es fs : List (Name × ℕ)) (bs rest : List Binding) (b : Binding) → bs ≡ rest ++ b ∷ [] → (x : Name) → lookup (same_name x) es ≡ newest x (reverse bs) → AreLinked (reverse bs)

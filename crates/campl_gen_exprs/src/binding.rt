@@ -47,11 +47,7 @@ pub fn bind_pattern(alloc: Global, code: &mut Emitter, p: &Pattern) -> Result<()
 /// `AllocError` where memory wants: some of them are bound.
 #[cycle(bind)]
 #[tactic(auto, using(crate::proofs::Bindings::names))]
-pub fn bind_patterns(
-    alloc: Global,
-    code: &mut Emitter,
-    ps: &[Pattern],
-) -> Result<(), AllocError>
+pub fn bind_patterns(alloc: Global, code: &mut Emitter, ps: &[Pattern]) -> Result<(), AllocError>
     ensures { OnOk result (view_emitter code.new ≡ binding_all (patterns (map view_pattern ps.now)) (view_emitter code.old)) }
 {
     for i in 0..ps.len() {

@@ -53,9 +53,7 @@ pub fn emit(
             let join = Join::Op(Operation::Compare(*op));
             emit_two(alloc, source, code, a.get(), b.get(), join, tail)
         }
-        Expr::Cons(_, a, b) => {
-            emit_two(alloc, source, code, a.get(), b.get(), Join::Cons, tail)
-        }
+        Expr::Cons(_, a, b) => { emit_two(alloc, source, code, a.get(), b.get(), Join::Cons, tail) }
         Expr::Append(_, a, b) => {
             let join = Join::Op(Operation::Append);
             emit_two(alloc, source, code, a.get(), b.get(), join, tail)
@@ -76,9 +74,7 @@ pub fn emit(
         Expr::Call(_, x, args) => emit_call(alloc, source, code, x, args.as_slice(), tail),
         Expr::Constructor(_, x, args) => emit_built(alloc, source, code, x, args.as_slice(), tail),
         Expr::List(_, args) => emit_list(alloc, source, code, args.as_slice(), tail),
-        Expr::Pair(_, a, b) => {
-            emit_two(alloc, source, code, a.get(), b.get(), Join::Pair, tail)
-        }
+        Expr::Pair(_, a, b) => { emit_two(alloc, source, code, a.get(), b.get(), Join::Pair, tail) }
     }
 }
 

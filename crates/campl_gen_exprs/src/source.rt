@@ -97,10 +97,7 @@ pub(crate) fn small(n: usize) -> Result<u32, AllocError>
 }
 
 // The functions' numbers by their names. Of two of one name the first counts.
-fn number_functions(
-    alloc: Global,
-    declarations: &[Decl],
-) -> Result<IndexMap<Name, u32>, AllocError>
+fn number_functions(alloc: Global, declarations: &[Decl]) -> Result<IndexMap<Name, u32>, AllocError>
     ensures { IfOk result (λ m. AreNumbered m.entries (map view_decl declarations.now)) }
 {
     let mut numbers = IndexMap::new(alloc);

@@ -1,5 +1,5 @@
 -- The decisions of each node of an expression.
-use Rattle.std.proofs.Common.{◌≡◌, ◌∙◌, refl, sym, ap, ℕ, ℤ, ◌+◌, ◌<◌, ◌≤◌, List, [], ◌∷◌, ◌++◌, map, drop, get_or, length, append_assoc}
+use Rattle.std.proofs.Common.{◌≡◌, ◌∙◌, refl, sym, ap, ℕ, suc, ℤ, ◌+◌, ◌<◌, ◌≤◌, List, [], ◌∷◌, ◌++◌, map, drop, get_or, length, append_assoc}
 use Rattle.std.proofs.lemmas.List.{drop_all}
 use Rattle.campl_tree.specs.declared.place.Place.{Place}
 use Rattle.campl_tree.specs.declared.expr.Comparison.{Comparison}
@@ -7,15 +7,16 @@ use Rattle.campl_tree.specs.declared.expr.Arithmetic.{Arithmetic}
 use Rattle.campl_tree.specs.declared.expr.Expr.{Expr}
 use Rattle.campl_tree.specs.declared.expr.Expr.TheVariants as expr
 use Rattle.campl_tree.specs.declared.expr.ExprRow.{ExprRow}
+use Rattle.campl_tree.specs.declared.decl.FunctionRow.{FunctionRow}
 use Rattle.campl_tree.specs.Plain.Expr as e
 use Rattle.campl_tree.specs.Plain.Pattern.{Pattern, pattern_then, no_patterns}
-use Rattle.campl_tree.specs.View.{view_expr, exprs, view_expr_row, expr_rows}
+use Rattle.campl_tree.specs.View.{view_expr, exprs, view_expr_row, expr_rows, view_pattern, patterns, view_function_row}
 use Rattle.campl_tree.proofs.Views.{view_expr_row-out, view_expr-If, view_expr-Case, view_expr-Or, view_expr-And, view_expr-Compare, view_expr-Cons, view_expr-Append, view_expr-Calculate, view_expr-Negate, view_expr-Number, view_expr-Character, view_expr-Text, view_expr-True, view_expr-False, view_expr-Variable, view_expr-Call, view_expr-CodeOf, view_expr-CharOf, view_expr-Constructor, view_expr-List, view_expr-Pair}
 use Rattle.campl_types.specs.Forms.{Form, list_of, part_forms}
 use Rattle.campl_types.specs.Names.{Name}
-use Rattle.campl_types.specs.Sequential.{expr_rows as forms_of_rows}
+use Rattle.campl_types.specs.Sequential.{expr_rows as forms_of_rows, function_rows}
 use Rattle.campl_types.specs.World.{World}
-use Rattle.campl_code.specs.CaseDecisions.{decisions_of, decisions_of_all, decisions_of_rows}
+use Rattle.campl_code.specs.CaseDecisions.{decisions_of, decisions_of_all, decisions_of_rows, decisions_of_function_rows}
 use Rattle.campl_code.specs.Decisions.{Decision}
 use Rattle.campl_seqcheck.proofs.Answered.{drop-at}
 use Rattle.campl_seqcheck.specs.Steps.{weight}
@@ -156,3 +157,28 @@ forms-are [] = refl
 forms-are (r ∷ rows) = ap (λ (l : List (List Form)). list_of (part_forms (pattern_then (view_expr_row r).0 no_patterns)) ∷ l) (forms-are rows)
 
 pub ruleset forms = (forms-are, map-more)
+
+-- Functions
+
+pub open-decided : (w : World) (a : e.Expr) → decided w a ≡ decisions_of w a
+unfolding decided
+open-decided w a = refl
+
+pub ruleset opened = (open-decided)
+
+pub function-rows-at : (w : World) (rows : List FunctionRow) (i : ℕ) (r : FunctionRow) → i < length rows → r ≡ get_or rows i r
+    → decisions_of_function_rows w (map view_function_row (drop i rows)) ≡ decisions_of w (view_function_row r).value ++ decisions_of_function_rows w (map view_function_row (drop (i + 1) rows))
+function-rows-at w rows i r l is = ap (λ ys. decisions_of_function_rows w (map view_function_row ys)) (drop-at rows i r l is)
+
+pub function-rows-end : (w : World) (rows : List FunctionRow) (i : ℕ) → length rows ≤ i → decisions_of_function_rows w (map view_function_row (drop i rows)) ≡ []
+function-rows-end w rows i l = ap (λ ys. decisions_of_function_rows w (map view_function_row ys)) (drop_all i rows l)
+
+pub function-forms-are : (rows : List FunctionRow) → map (λ (r : FunctionRow). list_of (part_forms (patterns (map view_pattern r.patterns)))) rows ≡ function_rows (map view_function_row rows)
+function-forms-are [] = refl
+function-forms-are (r ∷ rows) = ap (λ (l : List (List Form)). list_of (part_forms (patterns (map view_pattern r.patterns))) ∷ l) (function-forms-are rows)
+
+pub map-length : {A B : Type 0} (f : A → B) (xs : List A) → length (map f xs) ≡ length xs
+map-length f [] = refl
+map-length f (x ∷ xs) = ap suc (map-length f xs)
+
+pub ruleset function_forms = (function-forms-are, map-length)

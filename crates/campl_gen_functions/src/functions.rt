@@ -2,13 +2,13 @@
 ghost use Rattle.std.specs.Prelude.{◌≡◌, ◌∷◌, ◌++◌, [], IfOk, OnOk, length, map};
 ghost use Rattle.campl_tree.specs.View.{view_expr_row, expr_rows, view_decl, view_function, view_function_row};
 ghost use Rattle.campl_types.specs.Forms.{list_of, part_forms};
-ghost use Rattle.campl_types.specs.Sequential.{expr_rows as forms_of_rows};
-ghost use Rattle.campl_code.specs.CaseDecisions.{decisions_of_function, decisions_of_function_rows, decisions_of_functions};
+ghost use Rattle.campl_types.specs.Sequential.{expr_rows as forms_of_rows, function_rows};
+ghost use Rattle.campl_types.specs.World.{World as Declared};
+ghost use Rattle.campl_code.specs.CaseDecisions.{decisions_of, decisions_of_function, decisions_of_function_rows, decisions_of_functions};
 ghost use Rattle.campl_code.specs.Compiled.{decision_for};
 ghost use Rattle.campl_code.specs.Generated.{functions_code};
 ghost use Rattle.campl_code.specs.Stands.{functions_of};
 ghost use Rattle.campl_instructions.specs.View.{view_block, view_decision};
-ghost use Rattle.campl_gen_functions.specs.Deciding.{decided};
 
 use crate::deciding::decide;
 use campl_gen_exprs::{Source, function_blocks};
@@ -64,13 +64,14 @@ fn function_decisions(alloc: Global, world: &World) -> Result<Items<Decision>, A
 }
 
 // The decisions of a declaration, where it is a function.
+#[tactic(auto, using(crate::proofs::Decided::appends))]
 fn decide_declaration(
     alloc: Global,
     world: &World,
     out: &mut Items<Decision>,
     declaration: &Decl,
 ) -> Result<(), AllocError>
-    ensures { OnOk result (map view_decision out.new ≡ map view_decision out.old ++ decisions_of_functions (map view_decl world.now) (functions_of (view_decl declaration.now ∷ []))) }
+    ensures { OnOk result ((ds : Declared) → map view_decision out.new ++ decisions_of_functions (map view_decl world.now) (functions_of ds) ≡ map view_decision out.old ++ decisions_of_functions (map view_decl world.now) (functions_of (view_decl declaration.now ∷ ds))) }
 {
     match declaration {
         Decl::Function(f) => decide_function(alloc, world, out, f),
@@ -82,18 +83,17 @@ fn decide_declaration(
 }
 
 // The decision of a function's rows, and those in their values.
+#[tactic(auto, using(crate::proofs::Decided::appends))]
 fn decide_function(
     alloc: Global,
     world: &World,
     out: &mut Items<Decision>,
     f: &FunctionDecl,
 ) -> Result<(), AllocError>
-    ensures { OnOk result (map view_decision out.new ≡ map view_decision out.old ++ (decisions_of_function (map view_decl world.now) (view_function f.now) ++ [])) }
+    ensures { OnOk result (map view_decision out.new ≡ map view_decision out.old ++ decisions_of_function (map view_decl world.now) (view_function f.now)) }
 {
-    let width = f.parameters.len();
-    let rows = f.rows.as_slice();
-    put_match(alloc, world, out, width, rows)?;
-    decide_function_rows(alloc, world, out, rows)
+    put_function(alloc, world, out, f)?;
+    decide_function_rows(alloc, world, out, f.rows.as_slice())
 }
 
 // The decisions in the values of a function's rows.
@@ -106,9 +106,35 @@ fn decide_function_rows(
     ensures { OnOk result (map view_decision out.new ≡ map view_decision out.old ++ decisions_of_function_rows (map view_decl world.now) (map view_function_row rows.now)) }
 {
     for i in 0..rows.len() {
-        decide(alloc, world, out, &rows[i].value)?;
+        decide_function_row(alloc, world, out, &rows[i])?;
     }
     Ok(())
+}
+
+// The decisions in the value of a function's row.
+#[tactic(auto, using(crate::proofs::Decided::opened))]
+fn decide_function_row(
+    alloc: Global,
+    world: &World,
+    out: &mut Items<Decision>,
+    row: &FunctionRow,
+) -> Result<(), AllocError>
+    ensures { OnOk result (map view_decision out.new ≡ map view_decision out.old ++ decisions_of (map view_decl world.now) (view_function_row row.now).value) }
+{
+    decide(alloc, world, out, &row.value)
+}
+
+// Puts the decision of a function's rows behind the others.
+#[tactic(auto, using(crate::proofs::Decided::function_forms))]
+fn put_function(
+    alloc: Global,
+    world: &World,
+    out: &mut Items<Decision>,
+    f: &FunctionDecl,
+) -> Result<(), AllocError>
+    ensures { OnOk result (map view_decision out.new ≡ map view_decision out.old ++ decision_for (map view_decl world.now) (length (view_function f.now).parameters) (function_rows (view_function f.now).rows) ∷ []) }
+{
+    put_match(alloc, world, out, f.parameters.len(), f.rows.as_slice())
 }
 
 // Puts the decision of the rows of a `case` behind the others.
