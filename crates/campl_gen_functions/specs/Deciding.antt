@@ -1,6 +1,6 @@
 -- The decisions of an expression. The words of the definition are closed here, so that a proof about code sees each node's own
 -- equation; `proofs/Decided` has them.
-use Rattle.std.specs.Prelude.{List, [], ◌∷◌, ◌++◌}
+use Rattle.std.specs.Prelude.{List, ◌∷◌, ◌++◌}
 use Rattle.campl_tree.specs.Plain.Expr.{Expr, Exprs, ExprRows}
 use Rattle.campl_types.specs.World.{World}
 use Rattle.campl_types.specs.Sequential.{expr_rows}

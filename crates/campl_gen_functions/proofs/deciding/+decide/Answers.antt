@@ -1,10 +1,9 @@
 -- What the search leaves open.
-use Rattle.std.proofs.Common.{◌≡◌, ◌∙◌, ◌++◌, sym, ap, arith, map, drop, ◌+◌}
-use Rattle.campl_tree.specs.View.{view_expr, exprs, view_expr_row, expr_rows, view_decl}
+use Rattle.std.proofs.Common.{◌∙◌, ◌++◌, sym, ap, arith, map}
+use Rattle.campl_tree.specs.View.{view_decl}
 use Rattle.campl_instructions.specs.View.{view_decision}
 use Rattle.campl_seqcheck.proofs.Judges.{weight-Compare, weight-Cons, weight-Append, weight-Calculate, weight-Pair, weight-Or, weight-And, weight-Negate, weight-CodeOf, weight-CharOf, weight-Call, weight-Constructor, weight-List}
 use Rattle.campl_seqcheck.proofs.Falls.{if-falls, case-falls, two-falls, one-falls, all-falls, item-within, row-within}
-use Rattle.campl_gen_functions.specs.Deciding.{decided_all, decided_rows}
 use Rattle.campl_gen_functions.proofs.Decided.{all-at, all-end, rows-at, rows-end, row-weight, append-nothing, went}
 use Rattle.campl_gen_functions.proofs.deciding.+decide.Goals as goal
 
