@@ -1,11 +1,9 @@
 -- What is emitted for a function is its code.
-use Rattle.std.proofs.Common.{◌≡◌, ◌∙◌, refl, sym, ap, ℕ, zero, suc, ◌+◌, ◌-◌, ◌<◌, ◌≤◌, true, List, [], ◌∷◌, ◌++◌, map, drop, get_or, length, length-append, append_assoc, arith}
+use Rattle.std.proofs.Common.{◌≡◌, ◌∙◌, refl, sym, ap, ℕ, zero, suc, ◌+◌, ◌-◌, ◌<◌, ◌≤◌, true, List, [], ◌∷◌, ◌++◌, length, length-append, append_assoc, arith}
 use Rattle.std.specs.Prelude.{slice_set}
 use Rattle.campl_tree.specs.declared.decl.FunctionRow.{FunctionRow as Row}
-use Rattle.campl_tree.specs.declared.decl.FunctionDecl.{FunctionDecl as Function}
-use Rattle.campl_tree.specs.declared.decl.Decl.{Decl}
 use Rattle.campl_tree.specs.Plain.Decl.{FunctionDecl, FunctionRow}
-use Rattle.campl_tree.specs.View.{view_decl, view_function, view_function_row}
+use Rattle.campl_tree.specs.View.{view_function_row}
 use Rattle.campl_types.specs.World.{World}
 use Rattle.campl_types.specs.Patterns.{bound_in_all}
 use Rattle.campl_code.specs.CaseDecisions.{cases_in, cases_in_function, cases_in_function_rows}
@@ -13,10 +11,9 @@ use Rattle.campl_code.specs.Generated.{loads_code, code_of, function_code, funct
 use Rattle.campl_code.specs.Instructions as i
 use Rattle.campl_code.specs.Instructions.{Instr}
 use Rattle.campl_code.specs.Numbers.{numbered}
-use Rattle.campl_seqcheck.proofs.Answered.{drop-at}
-use Rattle.campl_gen_exprs.specs.Emission.{Emission, appended, counted, replaced, binding_all, left, emitted, shortened}
-use Rattle.campl_gen_exprs.specs.Functions.{fresh, function_row_emitted, function_rows_emitted, function_row_places, function_closed, function_emitted}
-use Rattle.campl_gen_exprs.proofs.Emitting.{append-nothing, map-length}
+use Rattle.campl_gen_exprs.specs.Emission.{Emission, appended, replaced, binding_all, emitted, shortened}
+use Rattle.campl_gen_exprs.specs.Functions.{fresh, function_row_emitted, function_rows_emitted, function_row_places, function_emitted}
+use Rattle.campl_gen_exprs.proofs.Emitting.{append-nothing}
 use Rattle.campl_gen_exprs.proofs.Places.{set-at}
 use Rattle.campl_gen_exprs.proofs.Bindings.{forgotten}
 

@@ -1,5 +1,5 @@
 -- What is emitted for each node of an expression.
-use Rattle.std.proofs.Common.{◌≡◌, ◌∙◌, refl, sym, ap, ℕ, ℤ, zero, suc, ◌+◌, ◌<◌, ◌≤◌, Bool, true, false, List, [], ◌∷◌, ◌++◌, map, drop, get_or, length, length-append, append_assoc, arith}
+use Rattle.std.proofs.Common.{◌≡◌, ◌∙◌, refl, sym, ap, ℕ, ℤ, suc, ◌+◌, ◌<◌, ◌≤◌, Bool, true, false, List, [], ◌∷◌, ◌++◌, map, drop, get_or, length, length-append, append_assoc, arith}
 use Rattle.std.specs.Prelude.{slice_set}
 use Rattle.std.proofs.lemmas.List.{drop_all}
 use Rattle.campl_tree.specs.declared.place.Place.{Place}
@@ -23,7 +23,7 @@ use Rattle.campl_code.specs.Instructions as i
 use Rattle.campl_code.specs.Instructions.{Instr}
 use Rattle.campl_code.specs.Numbers.{Numbers, numbered}
 use Rattle.campl_code.specs.Stands.{count}
-use Rattle.campl_gen_exprs.specs.Emission.{Emission, appended, counted, replaced, written, jumping, all_set, ends_set, bound, binding, left, shortened, emitted, emitted_all, emitted_two, emitted_one, emitted_list, emitted_over, emitted_if, emitted_and, emitted_or, row_emitted, rows_emitted, row_places, row_ends, emitted_case}
+use Rattle.campl_gen_exprs.specs.Emission.{Emission, appended, replaced, written, all_set, ends_set, binding, shortened, emitted, emitted_all, emitted_two, emitted_one, emitted_list, emitted_over, emitted_if, emitted_and, emitted_or, row_emitted, rows_emitted, row_places, row_ends, emitted_case}
 use Rattle.campl_gen_exprs.proofs.Emitting.{append-nothing}
 use Rattle.campl_gen_exprs.proofs.Bindings.{forgotten}
 use Rattle.campl_gen_exprs.proofs.Places.{set-at, two-code, if-code, and-code, or-code}

@@ -1,7 +1,7 @@
 -- Code that grows and whose places are written afterwards is the code of the definition.
-use Rattle.std.proofs.Common.{◌≡◌, ◌∙◌, refl, sym, ap, ℕ, zero, suc, ◌+◌, Bool, true, false, List, [], ◌∷◌, ◌++◌, length, length-append, append_assoc, arith}
+use Rattle.std.proofs.Common.{◌≡◌, ◌∙◌, refl, sym, ap, ℕ, ◌+◌, Bool, true, false, List, [], ◌∷◌, ◌++◌, length, length-append, append_assoc, arith}
 use Rattle.std.specs.Prelude.{slice_set}
-use Rattle.campl_code.specs.Generated.{last, past, leave, tested_code}
+use Rattle.campl_code.specs.Generated.{past, leave, tested_code}
 use Rattle.campl_code.specs.Instructions as i
 use Rattle.campl_code.specs.Instructions.{Instr}
 use Rattle.campl_gen_exprs.specs.Emission.{written}

@@ -1,8 +1,8 @@
 -- Variables in scope, and the bindings that hold them.
-use Rattle.std.proofs.Common.{append_assoc, length-append, get_or, take, drop, ◌-◌, ◌≤◌, ◌≡◌, ◌∙◌, refl, sym, ap, subst, ℕ, zero, suc, ◌+◌, ◌<◌, Bool, true, false, ◌||◌, cond, List, [], ◌∷◌, ◌++◌, reverse, map, length, Option, Some, None, is_some, IsSome, inl, inr, ◌⊎◌, option_map, slice_get, if◌then◌else◌, arith}
+use Rattle.std.proofs.Common.{drop, ◌-◌, ◌≤◌, ◌≡◌, ◌∙◌, refl, sym, ap, subst, ℕ, zero, suc, ◌<◌, Bool, true, false, cond, List, [], ◌∷◌, ◌++◌, reverse, length, Option, Some, None, IsSome, inl, inr, ◌⊎◌, option_map, slice_get, if◌then◌else◌, arith}
 use Rattle.std.specs.Map.{lookup}
 use Rattle.std.proofs.lemmas.List.{reverse-append, reverse-reverse, length-reverse}
-use Rattle.campl_types.specs.Names.{Name, same_name, found, is_among}
+use Rattle.campl_types.specs.Names.{Name, same_name, found}
 use Rattle.campl_types.proofs.Names.{same-turned, same-itself, split-names}
 use Rattle.campl_gen_exprs.specs.declared.scope.Binding.{Binding}
 use Rattle.campl_gen_exprs.specs.Scopes.{bound, newest, seen_at, AreLinked}

@@ -6,7 +6,7 @@ use Rattle.campl_tree.specs.declared.decl.Decl.{Decl}
 use Rattle.campl_tree.specs.View.{view_decl}
 use Rattle.campl_types.specs.Names.{Name, same_name}
 use Rattle.campl_types.specs.World.{World}
-use Rattle.campl_types.proofs.Names.{same-turned, split-names, same-itself}
+use Rattle.campl_types.proofs.Names.{split-names}
 use Rattle.campl_names.proofs.Sets.{lookup-found, any-among}
 use Rattle.campl_seqcheck.proofs.Answered.{drop-at}
 use Rattle.campl_code.specs.Generated.{function_number}

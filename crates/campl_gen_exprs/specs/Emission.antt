@@ -6,10 +6,9 @@ use Rattle.campl_tree.specs.Plain.Expr.{Expr, Exprs, ExprRows}
 use Rattle.campl_tree.specs.Plain.Pattern.{Pattern, Patterns}
 use Rattle.campl_types.specs.Names.{Name}
 use Rattle.campl_types.specs.World.{World}
-use Rattle.campl_types.specs.Matching.{number_of}
 use Rattle.campl_types.specs.Patterns.{bound_in, bound_in_all}
 use Rattle.campl_code.specs.CaseDecisions.{cases_in, cases_in_all}
-use Rattle.campl_code.specs.Generated.{last, past, leave, conses_code, tested_code, code_of, code_of_all, function_number, or_zero}
+use Rattle.campl_code.specs.Generated.{last, past, leave, conses_code, tested_code, code_of, code_of_all}
 use Rattle.campl_code.specs.Instructions as i
 use Rattle.campl_code.specs.Instructions.{Instr, Operation}
 use Rattle.campl_code.specs.Numbers.{Numbers, numbered}

@@ -1,5 +1,5 @@
 -- Names with the numbers of the functions that are declared under them.
-use Rattle.std.specs.Prelude.{◌≡◌, ℕ, ◌+◌, Bool, List, Option, Some, None, cond, option_map}
+use Rattle.std.specs.Prelude.{◌≡◌, ℕ, ◌+◌, List, Option, Some, None, option_map}
 use Rattle.std.specs.Map.{lookup}
 use Rattle.campl_types.specs.Names.{Name, same_name}
 use Rattle.campl_types.specs.World.{World}

@@ -1,6 +1,6 @@
 -- What the search leaves open.
 use Rattle.std.proofs.Common.{◌∙◌, sym, arith, map}
-use Rattle.campl_tree.specs.View.{view_expr, exprs, view_expr_row, expr_rows, view_decl}
+use Rattle.campl_tree.specs.View.{view_decl}
 use Rattle.campl_seqcheck.proofs.Judges.{weight-Compare, weight-Cons, weight-Append, weight-Calculate, weight-Pair, weight-Or, weight-And, weight-Negate, weight-CodeOf, weight-CharOf, weight-Call, weight-Constructor, weight-List}
 use Rattle.campl_seqcheck.proofs.Falls.{if-falls, case-falls, two-falls, one-falls, all-falls, item-within, row-within}
 use Rattle.campl_gen_exprs.specs.View.{view_emitter}
