@@ -1,15 +1,18 @@
--- What is held behind a step that adds an end, or takes one away.
-use Rattle.std.proofs.Common.{◌≡◌, ◌∙◌, inl, inr, refl, sym, ap, true, false, true≢false, ◌∷◌, Option, Some, None}
+-- What is held: behind a step that adds an end, or takes one away; and where it stands.
+use Rattle.std.proofs.Common.{◌≡◌, ◌∙◌, inl, inr, refl, sym, ap, subst, true, false, true≢false, ◌∷◌, Option, Some, None}
 use Rattle.std.proofs.Math.Path.{fun_ext}
-use Rattle.campl_machine.specs.Names.{End}
+use Rattle.campl_tree.specs.Plain.Decl.{Program}
+use Rattle.campl_machine.specs.Names.{Path, End, Process}
 use Rattle.campl_machine.proofs.Updates.{split}
 use Rattle.campl_types.specs.Names.{Name, same_name, found}
 use Rattle.campl_types.specs.Held.{Channel, Held, with, without}
 use Rattle.campl_types.proofs.Names.{same-turned}
 use Rattle.campl_peel.specs.Terms.{held_ends}
-use Rattle.campl_meaning.specs.States.{Ends}
+use Rattle.campl_meaning.specs.States.{Ends, Running, Runs}
+use Rattle.campl_meaning.specs.Reductions.{Configuration}
 use Rattle.campl_meaning.specs.Bodies.{without_end}
-use Rattle.campl_meaning.specs.Lawful.{Channels}
+use Rattle.campl_meaning.specs.Apart.{At, IsJoined}
+use Rattle.campl_meaning.specs.Lawful.{Channels, Lawful}
 use Rattle.campl_peel.proofs.Peeling.{none-or}
 use Rattle.campl_frame.proofs.Listed.{found-without, still-without}
 
@@ -41,3 +44,17 @@ held-without channel channel2 x es h = fun_ext (λ y. elim (split (same_name x y
       | inl n ↦ rw (n, s, i) refl
       | inr (e, f) ↦ absurd (let no : None ≡ Some e = sym i ∙ (found-without x es y e f).1 in cc no)
     ]
+
+-- Where a process's ends stand
+
+module _ (source : Program) (c : Configuration) (l : Lawful source c) (p : Path) (r : Running) (there : c.nodes (Process p) ≡ Some (Runs r)) where
+  -- with it
+  pub own-place : (x : Name) (e : End) → found x r.ends ≡ Some e → (l.place e ≡ At (Process p)) × IsJoined c e
+  own-place x e f = l.apart.placed.held p e (r, x, there, f)
+
+  -- and what stands there it holds
+  pub own-found : (e : End) → IsJoined c e → l.place e ≡ At (Process p) → (x : Name) × (found x r.ends ≡ Some e)
+  own-found e j i =
+      let (s, x, is, f) = l.apart.placed.holder p e j i in
+      let same : s ≡ r = cc (is, there) in
+      (x, subst (λ (z : Running). found x z.ends ≡ Some e) same f)

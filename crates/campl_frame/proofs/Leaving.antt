@@ -12,6 +12,9 @@ use Rattle.campl_meaning.specs.Apart.{Place, At, In, Gone, owes_pair, node_of, g
 use Rattle.campl_meaning.specs.Lawful.{Lawful}
 use Rattle.campl_meaning.proofs.Pairs.{pair-or-none}
 
+pub ends-apart : TellsApart same_end
+ends-apart = record { is = same_end-is; own = same_end-refl }
+
 abbrev is_at : Who → Place → Bool
 is_at who (At v) = same_who who v
 is_at who (In z) = false
@@ -63,11 +66,8 @@ module _ (source : Program) (c : Configuration) (l : Lawful source c) where
 
   -- so no cycle comes where ends are given up
   pub leaving-forest : (d : Configuration) (who : Who) (kept : End → Bool) → d.partner ≡ c.partner → ((e : End) → owes_pair (d.owed e) ≡ owes_pair (c.owed e)) → NoCycle (graph d (leaving who kept l.place))
-  leaving-forest d who kept partners owes = gives-up-forest same_end tells (graph c l.place) (graph d (leaving who kept l.place)) (record { partners = partners; others = others }) l.apart.forest
+  leaving-forest d who kept partners owes = gives-up-forest same_end ends-apart (graph c l.place) (graph d (leaving who kept l.place)) (record { partners = partners; others = others }) l.apart.forest
     where
-      tells : TellsApart same_end
-      tells = record { is = same_end-is; own = same_end-refl }
-
       node : (a : Place) (e : End) (ms ns : List Message) → owes_pair ms ≡ owes_pair ns → node_of a e ms ≡ node_of a e ns
       node (At v) e ms ns i = refl
       node (In z) e ms ns i = refl

@@ -4,7 +4,7 @@ use Rattle.std.proofs.Math.Path.{fun_ext}
 use Rattle.campl_machine.specs.Names.{End}
 use Rattle.campl_types.specs.Names.{Name, found}
 use Rattle.campl_types.specs.World.{World}
-use Rattle.campl_types.specs.Views.{turned}
+use Rattle.campl_types.specs.Views.{View, turned}
 use Rattle.campl_peel.specs.Terms.{TermIsWellFormed, held_ends}
 use Rattle.campl_meaning.specs.States.{Message, Word, Pick, EndPair, Ends, Running}
 use Rattle.campl_meaning.specs.Reductions.{Configuration}
@@ -46,6 +46,11 @@ pair-same w channel channel2 before y a b vy ca cb k = record {
   is_first = (k.is_first.0, ca ∙ k.is_first.1, k.is_first.2);
   is_second = (k.is_second.0, cb ∙ k.is_second.1, k.is_second.2);
 }
+
+-- a view takes one list after another
+pub takes-more : (w : World) (a : View) (ms ns : List Message) (u x : View) → TakesAll w a ms u → TakesAll w u ns x → TakesAll w a (ms ++ ns) x
+takes-more w a [] ns u x e b = subst (λ z. TakesAll w z ns x) (sym e) b
+takes-more w a (m ∷ ms) ns u x (next, t, k) b = (next, t, takes-more w next ms ns u x k b)
 
 -- a pair's ends are carried
 pub carries : (before after : List Message) (a b e : End) → (e ≡ a) ⊎ (e ≡ b) → IsCarried (before ++ (EndPair a b ∷ after)) e

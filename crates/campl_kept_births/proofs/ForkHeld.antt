@@ -7,14 +7,14 @@ use Rattle.campl_types.specs.Names.{Name, same_name, found}
 use Rattle.campl_types.specs.Held.{Channel, without}
 use Rattle.campl_types.proofs.Names.{same-is, same-itself}
 use Rattle.campl_peel.specs.Terms.{those, held_ends}
-use Rattle.campl_meaning.specs.States.{Ends, Running, Runs}
+use Rattle.campl_meaning.specs.States.{Ends, Running}
 use Rattle.campl_meaning.specs.Wants.{born}
 use Rattle.campl_meaning.specs.Reductions.{Configuration}
 use Rattle.campl_meaning.specs.Apart.{At, IsJoined}
 use Rattle.campl_peel.proofs.Peeling.{none-or}
 use Rattle.campl_frame.proofs.Listed.{some-is, lists, lists-found, found-listed, IsTidy, found-kept, found-still, not-kept, found-without, still-without, lists-first, lists-more, lists-later, tidy-those, tidy-more, tidy-without}
-use Rattle.campl_kept_births.proofs.Newborn.{born-fresh, not-born, own-place}
-use Rattle.campl_frame.proofs.Held.{held-of}
+use Rattle.campl_kept_births.proofs.Newborn.{born-fresh, not-born}
+use Rattle.campl_frame.proofs.Held.{held-of, own-place, own-found}
 use Rattle.campl_types.proofs.Truth.{not-true}
 use Rattle.campl_kept_births.proofs.ForkEnds.{Forking}
 use Rattle.campl_kept_births.proofs.ForkEnds.{a1 as a1_of, a2 as a2_of, b1 as b1_of, b2 as b2_of, base as base_of, drop as drop_of, r2 as r2_of, r3 as r3_of, d as d_of, a1-a2, a1-b1, a1-b2, a2-b1, b1-b2, old, end-new, partner-one, wired}
@@ -112,10 +112,8 @@ module _ (it : Forking) where
 
   pub all-kept : (e : End) → IsJoined c e → end ≢ e → l.place e ≡ At (Process p) → lists e r3.ends ≡ false → lists e r2.ends ≡ false → ⊥
   all-kept e j n i m o =
-      let (s, q, is, f) = l.apart.placed.holder p e j i in
-      let same : Some (Runs s) ≡ Some (Runs r) = sym is ∙ there in
-      let sr : s ≡ r = cc same in
-      elim (kept e q (subst (λ (v : Running). found q v.ends ≡ Some e) sr f)) [
+      let (q, f) = own-found source c l p r there e j i in
+      elim (kept e q f) [
         | inl g ↦ n (sym g)
         | inr (inl g) ↦ true≢false (sym g ∙ m)
         | inr (inr g) ↦ true≢false (sym g ∙ o)

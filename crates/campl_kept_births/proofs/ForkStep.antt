@@ -31,11 +31,14 @@ use Rattle.campl_meaning.proofs.Pairs.{carried-right}
 use Rattle.campl_meaning.proofs.Holding.{held-end}
 use Rattle.campl_meaning.proofs.Graphs.{same_node, nodes-apart}
 use Rattle.campl_peel.proofs.Peeling.{none-or}
+use Rattle.campl_frame.proofs.Held.{own-place}
 use Rattle.campl_frame.proofs.Listed.{some-is, lists, IsTidy}
-use Rattle.campl_kept_births.proofs.Sent.{carried-either, not-filled}
+use Rattle.campl_kept_births.proofs.Sent.{carried-either}
 use Rattle.campl_kept_births.proofs.Hands.{Hands, at-other, at-own, at-kin, lawful-after}
-use Rattle.campl_kept_births.proofs.Masks.{ends-apart, masked, standing-some, standing-none, mask, unmask, at-holder, at-pair, node-at, node-in, node-gone, owes-last}
-use Rattle.campl_kept_births.proofs.Newborn.{names-kept, born-fresh, own-place, no-child-yet, child-not, family, parent-there, child-there, others-there}
+use Rattle.campl_frame.proofs.Leaving.{ends-apart}
+use Rattle.campl_frame.proofs.Stays.{filled}
+use Rattle.campl_kept_births.proofs.Masks.{masked, standing-some, standing-none, mask, unmask, at-holder, at-pair, node-at, node-in, node-gone, owes-last}
+use Rattle.campl_kept_births.proofs.Newborn.{names-kept, born-fresh, no-child-yet, child-not, family, parent-there, child-there, others-there}
 use Rattle.campl_kept_births.proofs.ForkEnds.{Forking}
 use Rattle.campl_kept_births.proofs.ForkEnds.{a1 as a1_of, a2 as a2_of, b1 as b1_of, b2 as b2_of, drop as drop_of, r2 as r2_of, r3 as r3_of, move as move_of, d as d_of, channel2 as channel2_of, remains as remains_of, Off as Off_of, a1-a2, a1-b1, a1-b2, a2-b1, a2-b2, b1-b2, which, old, partner-a1, partner-a2, partner-b1, partner-b2, partner-old, partner-one, wired, channel-end, channel-a1, channel-b1, channel-old, seen-old, owed-end, owed-old, remains-end, remains-a2, remains-b2, remains-old}
 use Rattle.campl_kept_births.proofs.ForkTypes.{place2 as place2_of, each-of, typed-mine, typed-theirs, nothing-taken, agree, not-carried, place-end, pairs}
@@ -180,11 +183,11 @@ module _ (it : Forking) where
         | inr n ↦ remains-old it e n o.1 o.3 ∙ l.apart.placed.nowhere e i
       ]
     ];
-    rest_same = λ e j n. (remains-old it) e (λ i. n (ap l.place (sym i) ∙ end-place it)) (old it e j).1 (old it e j).3;
+    rest_same = λ e j n. remains-old it e (λ i. n (ap l.place (sym i) ∙ end-place it)) (old it e j).1 (old it e j).3;
     rest_at = λ e v j i k h. elim (rest-kind e (At v) h) [
       | inl (f, wrong) ↦ absurd (cc wrong)
       | inr (inl (f, wrong)) ↦ absurd (cc wrong)
-      | inr (inr (n, m, o, at)) ↦ let b : IsJoined c e = joined-still e j m o i k in (b, at, λ f. (all-kept it) e b n (at ∙ ap At f) i k)
+      | inr (inr (n, m, o, at)) ↦ let b : IsJoined c e = joined-still e j m o i k in (b, at, λ f. all-kept it e b n (at ∙ ap At f) i k)
     ];
     rest_in = λ q e j i k h. elim (rest-kind e (In q) h) [
       | inl (f, wrong) ↦ absurd (cc wrong)
@@ -197,7 +200,7 @@ module _ (it : Forking) where
       | inr (inr (n, m, o, at)) ↦ inr (joined-still e j m o i k, at)
     ];
     carried = carried;
-    same_channel = λ e j n m. (channel-old it) e (λ i. n (ap l.place (sym i) ∙ end-place it)) (old it e j);
+    same_channel = λ e j n m. channel-old it e (λ i. n (ap l.place (sym i) ∙ end-place it)) (old it e j);
     typed = typed-mine it;
     kin_typed = λ s i. let j : r3 ≡ s = cc i in subst (IsTypedAt (world_of source) channel2) j (typed-theirs it);
     types = each-of it keep y a1 (On side t) (channel-a1 it);
@@ -210,7 +213,7 @@ module _ (it : Forking) where
         seen-old it v (λ f.
         let same : other ≡ q = some-is other q (sym joined ∙ (ap c.partner f ∙ back_v)) in
         let empty : [] ≡ before ++ (EndPair m n ∷ after) = sym (nothing-taken it).0 ∙ (ap c.owed same ∙ i) in
-        not-filled before (EndPair m n) after empty) (q, back_v);
+        filled before after m n (sym empty)) (q, back_v);
   }
 
   -- Part 6
@@ -288,7 +291,7 @@ module _ (it : Forking) where
     at_l2 = standing-some _ b1 _ (partner-b2 it) ∙ node-in _ b2 _ end place-b2;
     apart = ((λ i. child-not p r (let j : child p r ≡ Process p = cc i in j)), (λ i. cc i), (λ i. cc i));
     fresh = λ e. no-node-yet e (c.partner e) refl;
-    partners = λ e i j k h. (partner-old it) e (ne e a1 i, ne e a2 j, ne e b1 k, ne e b2 h);
+    partners = λ e i j k h. partner-old it e (ne e a1 i, ne e a2 j, ne e b1 k, ne e b2 h);
     others = λ e i j k h. others e (c.partner e) refl (ne e a1 i, ne e a2 j, ne e b1 k, ne e b2 h);
   }
 

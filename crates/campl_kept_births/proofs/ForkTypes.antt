@@ -1,6 +1,6 @@
 -- A fork: types, what partners agree on, and the pair that is sent.
 use Rattle.std.proofs.Common.{◌≡◌, ◌≢◌, ◌⊎◌, ◌∙◌, inl, inr, refl, sym, ap, subst, Bool, true, false, true≢false, List, [], ◌∷◌, ◌++◌, Some, None}
-use Rattle.campl_machine.specs.Names.{First, Second, End}
+use Rattle.campl_machine.specs.Names.{First, Second, End, Process}
 use Rattle.campl_machine.proofs.Ends.{ne, same-end}
 use Rattle.campl_types.specs.World.{world_of}
 use Rattle.campl_types.specs.Names.{Name, same_name, found}
@@ -15,15 +15,16 @@ use Rattle.campl_meaning.specs.Views.{view_in, view_of, Takes, TakesAll, taken_a
 use Rattle.campl_meaning.specs.Apart.{Place, Gone, IsCarried, owes_pair}
 use Rattle.campl_meaning.specs.Lawful.{Channels, seen, IsTypedAt, IsPairOf, Agree}
 use Rattle.campl_meaning.proofs.Agreeing.{agree-turned}
-use Rattle.campl_meaning.proofs.Pairs.{pair-or-none, carried-owes}
+use Rattle.campl_meaning.proofs.Pairs.{carried-owes}
 use Rattle.campl_peel.proofs.Terms.{ends-with}
 use Rattle.campl_frame.proofs.Listed.{some-is, found-more}
-use Rattle.campl_kept_births.proofs.Sent.{takes-last, IsTheLast, one-pair}
+use Rattle.campl_frame.proofs.Leaving.{no-pair}
+use Rattle.campl_kept_births.proofs.Sent.{IsTheLast, one-pair}
 use Rattle.campl_frame.specs.Frame.{IsGoodPair}
-use Rattle.campl_frame.proofs.Stays.{agree-same}
+use Rattle.campl_frame.proofs.Stays.{takes-more, agree-same}
 use Rattle.campl_kept_births.proofs.Hands.{settled}
-use Rattle.campl_kept_births.proofs.Newborn.{own-place, new-agree}
-use Rattle.campl_frame.proofs.Held.{held-without}
+use Rattle.campl_kept_births.proofs.Newborn.{new-agree}
+use Rattle.campl_frame.proofs.Held.{held-without, own-place}
 use Rattle.campl_types.proofs.Bare.{bare-chan-twice}
 use Rattle.campl_kept_births.proofs.ForkEnds.{Forking}
 use Rattle.campl_kept_births.proofs.ForkEnds.{a1 as a1_of, a2 as a2_of, b1 as b1_of, b2 as b2_of, base as base_of, drop as drop_of, r2 as r2_of, r3 as r3_of, d as d_of, channel2 as channel2_of, remains as remains_of, at-fork, a2-b2, which, old, back, end-other, partner-a1, partner-a2, partner-b1, partner-b2, partner-old, wired, channel-end, channel-a1, channel-a2, channel-b1, channel-b2, channel-old, seen-old, owed-end, owed-old, owed-new, remains-end}
@@ -128,7 +129,7 @@ module _ (it : Forking) where
     left = Nothing;
     mine = subst (λ q. TakesAll (world_of source) (seen channel2 end) q Nothing) (sym (owed-old it other (end-other it) ∙ nothing-taken.0)) (ap view_in (channel-end it));
     yours = subst (λ q. TakesAll (world_of source) (seen channel2 other) q Nothing) (sym (owed-end it))
-        (takes-last (world_of source) (seen channel2 other) (c.owed end) (EndPair a2 b2) (turned (view_of side u)) Nothing reached takes-pair);
+        (takes-more (world_of source) (seen channel2 other) (c.owed end) (EndPair a2 b2 ∷ []) (turned (view_of side u)) Nothing reached (Nothing, takes-pair, refl));
   }
 
   agree-a : Agree (world_of source) d channel2 a1 a2
@@ -166,14 +167,11 @@ module _ (it : Forking) where
 
   -- Part 4
 
-  no-pair : owes_pair (c.owed end) ≡ false
-  no-pair = elim (pair-or-none (c.owed end)) [
-    | inl i ↦ i
-    | inr h ↦ absurd (let g : l.place end ≡ Gone = (l.pairs.given_up end h.one h.other h.before h.after h.is).0 in cc (g, end-place it))
-  ]
+  owes-none : owes_pair (c.owed end) ≡ false
+  owes-none = no-pair source c l (Process p) end (end-place it)
 
   pub not-carried : (e : End) → IsCarried (c.owed end) e → ⊥
-  not-carried e i = true≢false (sym (carried-owes (c.owed end) e i) ∙ no-pair)
+  not-carried e i = true≢false (sym (carried-owes (c.owed end) e i) ∙ owes-none)
 
   abbrev pub place2 : End → Place
   place2 = settled p r r2 (Some r3) remains
@@ -205,7 +203,7 @@ module _ (it : Forking) where
   pairs q m n before after i = elim (same-end end q) [
     | inl j ↦
         let h : c.owed end ++ (EndPair a2 b2 ∷ []) ≡ before ++ (EndPair m n ∷ after) = sym (owed-end it) ∙ (ap d.owed j ∙ i) in
-        let s : IsTheLast (c.owed end) before after a2 b2 m n = one-pair (c.owed end) before after a2 b2 m n no-pair h in
+        let s : IsTheLast (c.owed end) before after a2 b2 m n = one-pair (c.owed end) before after a2 b2 m n owes-none h in
         inr (subst (λ v. IsGoodPair (world_of source) d place2 channel2 v m n before after) j
         (subst (λ v. IsGoodPair (world_of source) d place2 channel2 end v n before after) s.first
         (subst (λ v. IsGoodPair (world_of source) d place2 channel2 end a2 v before after) s.second

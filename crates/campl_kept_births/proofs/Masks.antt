@@ -7,10 +7,8 @@ use Rattle.campl_machine.proofs.Updates.{split}
 use Rattle.campl_machine.proofs.Shapes.{removal}
 use Rattle.campl_meaning.specs.States.{Message, Word, Pick, EndPair}
 use Rattle.campl_meaning.specs.Reductions.{Configuration}
+use Rattle.campl_frame.proofs.Leaving.{ends-apart}
 use Rattle.campl_meaning.specs.Apart.{Place, At, In, Gone, Node, Holder, Pair, owes_pair, node_of, graph}
-
-pub ends-apart : TellsApart same_end
-ends-apart = record { is = same_end-is; own = same_end-refl }
 
 -- where an end stands that has a partner
 abbrev pub standing : Option End → Option Node → Option Node

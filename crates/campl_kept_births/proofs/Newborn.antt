@@ -11,7 +11,6 @@ use Rattle.campl_machine.proofs.Same.{same_path-refl, same_end-is, same_who-is, 
 use Rattle.campl_machine.proofs.Updates.{split}
 use Rattle.campl_machine.proofs.Performs.{does_of}
 use Rattle.campl_types.specs.World.{World, world_of}
-use Rattle.campl_types.specs.Names.{Name, found}
 use Rattle.campl_types.specs.Held.{On}
 use Rattle.campl_types.specs.SameType.{bare_chan}
 use Rattle.campl_types.specs.Views.{turned}
@@ -22,7 +21,7 @@ use Rattle.campl_meaning.specs.States.{Running, State, Runs}
 use Rattle.campl_meaning.specs.Wants.{born, child, half_on}
 use Rattle.campl_meaning.specs.Reductions.{Configuration, act_of}
 use Rattle.campl_meaning.specs.Views.{view_in, TakesAll}
-use Rattle.campl_meaning.specs.Apart.{At, IsJoined, IsAtMost, IsNamed, number_in_end}
+use Rattle.campl_meaning.specs.Apart.{IsJoined, IsAtMost, IsNamed, number_in_end}
 use Rattle.campl_meaning.specs.Lawful.{Channels, seen, Agree, Lawful}
 use Rattle.campl_meaning.proofs.Named.{longer}
 use Rattle.campl_peel.proofs.Peeling.{none-or}
@@ -81,10 +80,6 @@ module _ (source : Program) (c : Configuration) (l : Lawful source c) (p : Path)
   -- so it is none that was there
   pub not-born : (e : End) (n : ℕ) (h : Half) → IsJoined c e → e ≢ born p r n h
   not-born e n h (f, j) i = let k : c.partner (born p r n h) ≡ Some f = subst (λ z. c.partner z ≡ Some f) i j in cc (k, born-fresh n h)
-
-  -- what the process holds
-  pub own-place : (x : Name) (e : End) → found x r.ends ≡ Some e → (l.place e ≡ At (Process p)) × IsJoined c e
-  own-place x e f = l.apart.placed.held p e (r, x, there, f)
 
   -- nor is there a child of that name
   pub no-child-yet : (s : State) → c.nodes (child p r) ≡ Some s → ⊥

@@ -23,11 +23,12 @@ use Rattle.campl_meaning.specs.Apart.{At, IsJoined}
 use Rattle.campl_meaning.specs.Lawful.{Channels, IsTypedAt, Agree, Lawful}
 use Rattle.campl_peel.proofs.Terms.{ends-with}
 use Rattle.campl_types.proofs.Truth.{not-true}
+use Rattle.campl_frame.proofs.Held.{own-place, own-found}
 use Rattle.campl_frame.proofs.Listed.{lists, lists-found, found-listed, IsTidy, found-kept, found-still, not-kept, found-more, lists-first, lists-more, lists-later, tidy-those, tidy-more}
 use Rattle.campl_meaning.proofs.Agreeing.{agree-turned}
 use Rattle.campl_peel.proofs.Peeling.{none-or}
 use Rattle.campl_frame.proofs.Stays.{same-held, agree-same}
-use Rattle.campl_kept_births.proofs.Newborn.{halves-differ, born-differ, wire, born-fresh, born-idle, not-born, own-place, new-agree}
+use Rattle.campl_kept_births.proofs.Newborn.{halves-differ, born-differ, wire, born-fresh, born-idle, not-born, new-agree}
 
 -- a process in a lawful configuration at a plug, and how it is peeled
 pub record Peeling : Type 0 where
@@ -180,10 +181,8 @@ module _ (it : Peeling) where
   -- an end that was held and is in neither list is none
   pub all-kept : (e : End) → IsJoined c e → l.place e ≡ At (Process p) → lists e r3.ends ≡ false → lists e r2.ends ≡ false → ⊥
   all-kept e j i a o =
-      let (s, y, is, f) = l.apart.placed.holder p e j i in
-      let same : Some (Runs s) ≡ Some (Runs r) = sym is ∙ there in
-      let sr : s ≡ r = cc same in
-      elim (kept e y (subst (λ (z : Running). found y z.ends ≡ Some e) sr f)) [
+      let (y, f) = own-found source c l p r there e j i in
+      elim (kept e y f) [
         | inl g ↦ true≢false (sym g ∙ a)
         | inr g ↦ true≢false (sym g ∙ o)
       ]

@@ -28,7 +28,8 @@ use Rattle.campl_frame.proofs.Listed.{some-is, lists, IsTidy, lists-first}
 use Rattle.campl_meaning.proofs.Finite.{finite-of, finite-kept}
 use Rattle.campl_peel.proofs.Peeling.{none-or}
 use Rattle.campl_kept_births.proofs.Hands.{settled, Hands, at-other, at-own, at-kin, lawful-after}
-use Rattle.campl_kept_births.proofs.Masks.{ends-apart, masked, standing-some, standing-none, mask, unmask, at-holder, node-at}
+use Rattle.campl_frame.proofs.Leaving.{ends-apart}
+use Rattle.campl_kept_births.proofs.Masks.{masked, standing-some, standing-none, mask, unmask, at-holder, node-at}
 use Rattle.campl_kept_births.proofs.Newborn.{names-kept, born-differ, born-fresh, no-child-yet, child-not, family, parent-there, child-there, others-there}
 use Rattle.campl_kept_births.proofs.PeelEnds.{Peeling}
 use Rattle.campl_kept_births.proofs.PeelEnds.{x as x_of, T as T_of, side as side_of, mine as mine_of, theirs as theirs_of, goes as goes_of, stays as stays_of, r2 as r2_of, r3 as r3_of, move as move_of, d as d_of, channel2 as channel2_of, which, partner-theirs, partner-mine, partner-old, channel-theirs, channel-mine, channel-joined, wired, tidy-mine, tidy-theirs, all-kept, joined-still, own-joined, own-free, shared, each-of, typed-mine, typed-theirs, agree}
@@ -101,11 +102,11 @@ module _ (it : Peeling) where
     rest_nowhere = λ e i j. l.apart.placed.nowhere e i;
     rest_at = λ e v j a o i.
         let b : IsJoined c e = joined-still it e j a o in
-        (b, i, λ n. (all-kept it) e b (i ∙ ap At n) a o);
+        (b, i, λ n. all-kept it e b (i ∙ ap At n) a o);
     rest_in = λ z e j a o i. l.apart.placed.carrier z e (joined-still it e j a o) i;
     rest_gone = λ e j a o i. inr (joined-still it e j a o, i);
     carried = λ z e i. inl (i, λ n. cc n);
-    same_channel = λ e j n m. (channel-joined it) e j;
+    same_channel = λ e j n m. channel-joined it e j;
     typed = typed-mine it;
     kin_typed = λ s i. let j : r3 ≡ s = cc i in subst (IsTypedAt (world_of source) channel2) j (typed-theirs it);
     types = each-of it stays mine (On (opposite side) T) (channel-mine it);
@@ -177,7 +178,7 @@ module _ (it : Peeling) where
     at_k = standing-some _ mine _ (partner-theirs it) ∙ node-at _ theirs _ (child p r) place-theirs;
     apart = λ i. child-not p r (let j : child p r ≡ Process p = cc i in j);
     fresh = λ e. no-node-yet e (c.partner e) refl;
-    partners = λ e n m. (partner-old it) e (ne e theirs m) (ne e mine n);
+    partners = λ e n m. partner-old it e (ne e theirs m) (ne e mine n);
     others = λ e n m. others e (c.partner e) refl (ne e mine n) (ne e theirs m);
   }
 

@@ -1,15 +1,9 @@
--- Messages with one more: what a view takes of them, and where their pairs stand.
-use Rattle.std.proofs.Common.{◌≡◌, ◌⊎◌, inl, inr, refl, sym, subst, false, true≢false, List, [], ◌∷◌, ◌++◌}
+-- Messages with one more: where their pairs stand.
+use Rattle.std.proofs.Common.{◌≡◌, ◌⊎◌, inl, inr, refl, sym, false, true≢false, List, [], ◌∷◌, ◌++◌}
 use Rattle.campl_machine.specs.Names.{End}
-use Rattle.campl_types.specs.World.{World}
-use Rattle.campl_types.specs.Views.{View}
 use Rattle.campl_meaning.specs.States.{Message, Word, Pick, EndPair}
-use Rattle.campl_meaning.specs.Views.{Takes, TakesAll}
 use Rattle.campl_meaning.specs.Apart.{IsCarried, owes_pair}
-
-pub takes-last : (w : World) (v : View) (ms : List Message) (m : Message) (mid last : View) → TakesAll w v ms mid → Takes w mid m last → TakesAll w v (ms ++ (m ∷ [])) last
-takes-last w v [] m mid last h k = (last, subst (λ q. Takes w q m last) (sym h) k, refl)
-takes-last w v (n ∷ ms) m mid last (next, t, h) k = (next, t, takes-last w next ms m mid last h k)
+use Rattle.campl_frame.proofs.Stays.{filled}
 
 pub carried-either : (ms ns : List Message) (e : End) → IsCarried (ms ++ ns) e → IsCarried ms e ⊎ IsCarried ns e
 carried-either [] ns e i = inr i
@@ -29,10 +23,6 @@ head-owes (Word v) ms a o i j = cc j
 head-owes (Pick n) ms a o i j = cc j
 head-owes (EndPair f g) ms a o i j = true≢false i
 
-pub not-filled : (ms : List Message) (m : Message) (ns : List Message) → [] ≡ ms ++ (m ∷ ns) → ⊥
-not-filled [] m ns e = cc e
-not-filled (n ∷ ms) m ns e = cc e
-
 -- the only pair is the last
 pub record IsTheLast (ms firsts rest : List Message) (f g a o : End) : Type 0 where
   pub before : firsts ≡ ms
@@ -44,7 +34,7 @@ pub one-pair : (ms before after : List Message) (f g a o : End) → owes_pair ms
 one-pair [] [] after f g a o h i =
     let heads : EndPair f g ≡ EndPair a o = cc i in
     record { before = refl; first = cc heads; second = cc heads; after = let t : [] ≡ after = cc i in sym t }
-one-pair [] (n ∷ before) after f g a o h i = absurd (let t : [] ≡ before ++ (EndPair a o ∷ after) = cc i in not-filled before (EndPair a o) after t)
+one-pair [] (n ∷ before) after f g a o h i = absurd (let t : [] ≡ before ++ (EndPair a o ∷ after) = cc i in filled before after a o (sym t))
 one-pair (m ∷ ms) [] after f g a o h i = absurd (let t : m ≡ EndPair a o = cc i in head-owes m ms a o h t)
 one-pair (m ∷ ms) (n ∷ before) after f g a o h i =
     let tails : ms ++ (EndPair f g ∷ []) ≡ before ++ (EndPair a o ∷ after) = cc i in

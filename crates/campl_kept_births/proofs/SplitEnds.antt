@@ -24,9 +24,9 @@ use Rattle.campl_meaning.specs.Reductions.{Configuration}
 use Rattle.campl_meaning.specs.Views.{view_in, view_of}
 use Rattle.campl_meaning.specs.Apart.{Place, At, In, Gone, IsCarried, IsJoined}
 use Rattle.campl_meaning.specs.Lawful.{Channels, seen, IsPairOf, Lawful}
+use Rattle.campl_frame.proofs.Held.{own-place}
 use Rattle.campl_frame.proofs.Listed.{IsTidy}
 use Rattle.campl_kept_births.proofs.Bare.{IsSplitAt, split-at}
-use Rattle.campl_kept_births.proofs.Newborn.{own-place}
 use Rattle.campl_types.proofs.Bare.{bare-chan-twice}
 
 -- a process in a lawful configuration at a split, and the pair that it takes

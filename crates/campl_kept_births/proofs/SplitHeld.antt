@@ -13,7 +13,7 @@ use Rattle.campl_types.specs.Linear.{IsWellFormed}
 use Rattle.campl_types.specs.Views.{View, Nothing, turned, deed_of, side_of}
 use Rattle.campl_types.proofs.Names.{same-is, same-itself, same-turned}
 use Rattle.campl_peel.specs.Terms.{held_ends}
-use Rattle.campl_meaning.specs.States.{EndPair, Running, Runs}
+use Rattle.campl_meaning.specs.States.{EndPair, Running}
 use Rattle.campl_meaning.specs.Bodies.{without_end}
 use Rattle.campl_meaning.specs.Reductions.{Configuration}
 use Rattle.campl_meaning.specs.Views.{view_in, view_of, TakesAll, taken_at}
@@ -22,9 +22,8 @@ use Rattle.campl_meaning.specs.Lawful.{Channels, seen, IsTypedAt, Agree}
 use Rattle.campl_meaning.proofs.Agreeing.{agree-turned}
 use Rattle.campl_peel.proofs.Peeling.{none-or}
 use Rattle.campl_frame.proofs.Listed.{some-is, lists, lists-found, found-listed, IsTidy, found-more, found-without, still-without, lists-first, lists-more, lists-later, tidy-more, tidy-without}
-use Rattle.campl_frame.proofs.Held.{held-of, held-more, held-without}
+use Rattle.campl_frame.proofs.Held.{held-of, held-more, held-without, own-place, own-found}
 use Rattle.campl_frame.proofs.Stays.{agree-same}
-use Rattle.campl_kept_births.proofs.Newborn.{own-place}
 use Rattle.campl_kept_births.proofs.SplitEnds.{Splitting}
 use Rattle.campl_kept_births.proofs.SplitEnds.{r2 as r2_of, d as d_of, channel2 as channel2_of, remains as remains_of, at-split, back, tidy, a-place, o-place, a-o, end-other, channel-end, channel-a, channel-o, channel-old, end-view, seen-other, owed-other, owed-old}
 
@@ -97,10 +96,8 @@ module _ (it : Splitting) where
 
   pub all-kept : (e : End) → IsJoined c e → end ≢ e → l.place e ≡ At (Process p) → lists e r2.ends ≡ false → ⊥
   all-kept e j n i m =
-      let (s, k, is, f) = l.apart.placed.holder p e j i in
-      let same : Some (Runs s) ≡ Some (Runs r) = sym is ∙ there in
-      let sr : s ≡ r = cc same in
-      elim (kept e k (subst (λ (q : Running). found k q.ends ≡ Some e) sr f)) [
+      let (k, f) = own-found source c l p r there e j i in
+      elim (kept e k f) [
         | inl g ↦ n (sym g)
         | inr g ↦ true≢false (sym g ∙ m)
       ]

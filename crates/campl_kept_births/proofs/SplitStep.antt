@@ -23,13 +23,13 @@ use Rattle.campl_meaning.specs.Wants.{onward, on_ends, with_found, command, term
 use Rattle.campl_meaning.specs.Reductions.{Configuration, act_of}
 use Rattle.campl_meaning.specs.Apart.{Place, At, In, Gone, IsCarried, IsNamed, Holder, Pair, owes_pair, node_of, graph}
 use Rattle.campl_meaning.specs.Lawful.{Channels, IsTypedAt, Lawful}
-use Rattle.campl_meaning.proofs.Pairs.{pair-or-none}
 use Rattle.campl_meaning.proofs.Holding.{held-end}
 use Rattle.campl_frame.proofs.Listed.{some-is, lists, lists-found}
 use Rattle.campl_frame.proofs.Alone.{alone-here, alone-others, alone-whose, alone-listed}
 use Rattle.campl_frame.proofs.Stays.{carries}
 use Rattle.campl_kept_births.proofs.Hands.{settled, Hands, at-other, at-own, lawful-after}
-use Rattle.campl_kept_births.proofs.Masks.{ends-apart, masked, standing-some, standing-none, mask, unmask, node-at, node-in, node-gone, node-nowhere}
+use Rattle.campl_frame.proofs.Leaving.{ends-apart, no-pair}
+use Rattle.campl_kept_births.proofs.Masks.{masked, standing-some, standing-none, mask, unmask, node-at, node-in, node-gone, node-nowhere}
 use Rattle.campl_kept_births.proofs.Newborn.{names-kept}
 use Rattle.campl_kept_births.proofs.SplitEnds.{Splitting}
 use Rattle.campl_kept_births.proofs.SplitEnds.{r2 as r2_of, d as d_of, channel2 as channel2_of, remains as remains_of, back, end-place, a-place, o-place, other-gone, end-a, end-o, end-other, channel-end, channel-a, channel-o, channel-old, seen-other, owed-other, owed-old}
@@ -91,10 +91,10 @@ module _ (it : Splitting) where
       joined = λ e j. l.joined e j;
     };
     rest_nowhere = λ e i j. elim (split (same_end end e)) [ inl h ↦ rw h refl | inr h ↦ rw h (l.apart.placed.nowhere e i) ];
-    rest_same = λ e j n. (remains-old it) e (λ i. n (subst (λ m. l.place m ≡ At (Process p)) i (end-place it)));
+    rest_same = λ e j n. remains-old it e (λ i. n (subst (λ m. l.place m ≡ At (Process p)) i (end-place it)));
     rest_at = λ e q j i m k. elim (split-place e (At q) k) [
       | inl (h, wrong) ↦ absurd (cc wrong)
-      | inr (n, at) ↦ (j, at, λ h. (all-kept it) e j n (at ∙ ap At h) m)
+      | inr (n, at) ↦ (j, at, λ h. all-kept it e j n (at ∙ ap At h) m)
     ];
     rest_in = λ q e j i m k. elim (split-place e (In q) k) [
       | inl (h, wrong) ↦ absurd (cc wrong)
@@ -111,7 +111,7 @@ module _ (it : Splitting) where
       | inr (n, at) ↦ inr (j, at)
     ];
     carried = λ q e i. let k : IsCarried (c.owed q) e × (other ≢ q) = still-carried q e i in inl (k.0, λ j. k.1 (some-is other q j));
-    same_channel = λ e j n m. (channel-old it) e (λ i. n (subst (λ h. l.place h ≡ At (Process p)) i (end-place it))) (λ i. m other refl (subst (λ h. l.place h ≡ In other) i (a-place it).0))
+    same_channel = λ e j n m. channel-old it e (λ i. n (subst (λ h. l.place h ≡ At (Process p)) i (end-place it))) (λ i. m other refl (subst (λ h. l.place h ≡ In other) i (a-place it).0))
         (λ i. m other refl (subst (λ h. l.place h ≡ In other) i (o-place it).0));
     typed = typed it;
     kin_typed = λ s i. absurd (cc i);
@@ -131,7 +131,7 @@ module _ (it : Splitting) where
           )
       | inr j ↦ inl (sym (owed-old it q j) ∙ i, λ k. j (some-is other q k))
     ];
-    pair_seen = λ q m n h before after i j k. (seen-other it) h (λ f.
+    pair_seen = λ q m n h before after i j k. seen-other it h (λ f.
         let back_h : c.partner h ≡ Some q = l.apart.placed.paired.back q h k in
         j (sym joined ∙ subst (λ g. c.partner g ≡ Some q) (sym f) back_h));
   }
@@ -140,12 +140,6 @@ module _ (it : Splitting) where
 
   abbrev place2 : End → Place
   place2 = settled p r r2 None remains
-
-  no-pair : owes_pair (c.owed end) ≡ false
-  no-pair = elim (pair-or-none (c.owed end)) [
-    | inl i ↦ i
-    | inr h ↦ absurd (let g : l.place end ≡ Gone = (l.pairs.given_up end h.one h.other h.before h.after h.is).0 in cc (g, end-place it))
-  ]
 
   not-listed : (e : End) → l.place e ≢ At (Process p) → l.place e ≢ In other → lists e r2.ends ≡ false
   not-listed e n m = elim (split (lists e r2.ends)) [
@@ -197,7 +191,7 @@ module _ (it : Splitting) where
     };
     partners = refl;
     gone = λ e i. elim i [
-      | inl j ↦ subst (λ q. (masked d place2).at q ≡ None) (sym j) (standing-some _ other _ joined ∙ node-nowhere _ end _ place-end (ap owes_pair (owed-old it end (ne end other (end-other it))) ∙ no-pair))
+      | inl j ↦ subst (λ q. (masked d place2).at q ≡ None) (sym j) (standing-some _ other _ joined ∙ node-nowhere _ end _ place-end (ap owes_pair (owed-old it end (ne end other (end-other it))) ∙ no-pair source c l (Process p) end (end-place it)))
       | inr j ↦ subst (λ q. (masked d place2).at q ≡ None) (sym j) (standing-some _ end _ (back it) ∙ node-nowhere _ other _ place-other (ap owes_pair (owed-other it)))
     ];
     others = λ e n m. unmoved e (c.partner e) refl (ne e end n) (ne e other m);

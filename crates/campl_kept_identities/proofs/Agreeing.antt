@@ -9,8 +9,8 @@ use Rattle.campl_meaning.specs.Reductions.{Configuration}
 use Rattle.campl_meaning.specs.Views.{TakesAll}
 use Rattle.campl_meaning.specs.Lawful.{Channels, seen, Agree, IsPairOf}
 use Rattle.campl_meaning.proofs.Agreeing.{agree-turned}
-use Rattle.campl_kept_identities.proofs.Takes.{one-side-takes, takes-both}
-use Rattle.campl_kept_identities.proofs.Pairs.{not-empty}
+use Rattle.campl_kept_identities.proofs.Takes.{one-side-takes}
+use Rattle.campl_frame.proofs.Stays.{takes-more, filled}
 
 module _ (w : World) (channel : Channels) where
   -- where y2 owes nothing, y stands at its own view, so y2 comes to the view of x
@@ -32,9 +32,9 @@ module _ (w : World) (channel : Channels) where
   one-way c d x y x2 y2 a k is none ox oy = record {
     left = k.left;
     mine = subst (λ (ms : List Message). TakesAll w (seen channel x2) ms k.left) (sym oy)
-        (takes-both w (seen channel x2) (seen channel y) k.left (c.owed x) (c.owed y2) (through c y x x2 a none is) k.mine);
+        (takes-more w (seen channel x2) (c.owed x) (c.owed y2) (seen channel y) k.left (through c y x x2 a none is) k.mine);
     yours = subst (λ (ms : List Message). TakesAll w (seen channel y2) ms (turned k.left)) (sym ox)
-        (takes-both w (seen channel y2) (turned k.left) (turned k.left) (c.owed y) (c.owed x2) k.yours (nothing-more (c.owed x2) (turned k.left) none));
+        (takes-more w (seen channel y2) (c.owed y) (c.owed x2) (turned k.left) (turned k.left) k.yours (nothing-more (c.owed x2) (turned k.left) none));
   }
 
   -- x and y, the ends of an identity, with their partners x2 and y2
@@ -52,12 +52,12 @@ module _ (w : World) (channel : Channels) where
     -- a pair that x2 owes comes to y2 at the same receipt, behind what y owed
     pub far-pair : (rest after : List Message) (g h : End) → c.owed x2 ≡ rest ++ (EndPair g h ∷ after) → IsPairOf w channel rest x g h → IsPairOf w channel (c.owed y ++ rest) y2 g h
     far-pair rest after g h lies q = elim (one-empty c x y x2 y2 a k is) [
-      | inl n ↦ absurd (not-empty (c.owed x2) rest g h after lies n)
+      | inl n ↦ absurd (filled rest after g h (sym lies ∙ n))
       | inr n ↦ record {
         view = q.view;
         first = q.first;
         second = q.second;
-        reached = takes-both w (seen channel y2) (seen channel x) q.view (c.owed y) rest (through c x y y2 k n back) q.reached;
+        reached = takes-more w (seen channel y2) (c.owed y) rest (seen channel x) q.view (through c x y y2 k n back) q.reached;
         splits = q.splits;
         is_first = q.is_first;
         is_second = q.is_second;

@@ -1,9 +1,8 @@
 -- An identity keeps a configuration lawful.
 use Rattle.std.proofs.Common.{◌≡◌, ◌≢◌, Bool, false, List, [], ◌∷◌, ◌++◌, ◌⊎◌, inl, inr, refl, sym, ap, subst, ◌∙◌, Some, None, if◌then◌else◌}
 use Rattle.campl_tree.specs.Plain.Decl.{Program}
-use Rattle.campl_machine.specs.Names.{TellsApart, End, Who, Process, same_end}
+use Rattle.campl_machine.specs.Names.{End, Who, Process, same_end}
 use Rattle.campl_machine.specs.Graph.{Graph, NoCycle}
-use Rattle.campl_machine.proofs.Same.{same_end-is, same_end-refl}
 use Rattle.campl_machine.proofs.Ends.{Off}
 use Rattle.campl_machine.proofs.IdentityForest.{identity-forest}
 use Rattle.campl_machine.proofs.Shapes.{gives-up-forest}
@@ -17,10 +16,10 @@ use Rattle.campl_meaning.specs.Lawful.{seen, Agree, IsPairOf, Lawful}
 use Rattle.campl_meaning.proofs.Agreeing.{agree-turned}
 use Rattle.campl_meaning.proofs.Pairs.{carried-right, none-carried}
 use Rattle.campl_frame.specs.Frame.{IsSpent, IsGoodPair, IsLocal}
-use Rattle.campl_frame.proofs.Leaving.{leaving, sorts, stays-put, goes-unkept, was-put, was-gone, no-pair}
-use Rattle.campl_frame.proofs.Stays.{agree-same}
+use Rattle.campl_frame.proofs.Leaving.{ends-apart, leaving, sorts, stays-put, goes-unkept, was-put, was-gone, no-pair}
+use Rattle.campl_frame.proofs.Stays.{agree-same, filled}
 use Rattle.campl_frame.proofs.Frame.{local-lawful}
-use Rattle.campl_kept_identities.proofs.Pairs.{LiesBehind, pair-behind, owes-behind, carried-behind, not-empty}
+use Rattle.campl_kept_identities.proofs.Pairs.{LiesBehind, pair-behind, owes-behind, carried-behind}
 use Rattle.campl_kept_identities.proofs.Around.{Went, Stayed, Left, FarX, FarY, Kept, IsAround}
 use Rattle.campl_kept_identities.proofs.Agreeing.{far-agree, far-pair}
 
@@ -220,7 +219,7 @@ module _ (source : Program) (c d : Configuration) (l : Lawful source c) (p : Who
 
   was-pair : (z a b : End) (before after : List Message) → d.owed z ≡ before ++ (EndPair a b ∷ after) → WasPair z a b before after
   was-pair z a b before after h = elim (s.ends z) [
-    | Left q j o ↦ absurd (not-empty (d.owed z) before a b after h o)
+    | Left q j o ↦ absurd (filled before after a b (sym h ∙ o))
     | FarX q j o ↦ of-x2 z a b before after q j (pair-behind (c.owed y) (c.owed x2) before a b after no-pair-y (sym o ∙ h))
     | FarY q j o ↦ of-y2 z a b before after q j (pair-behind (c.owed x) (c.owed y2) before a b after no-pair-x (sym o ∙ h))
     | Kept q j o ↦ record { old = before; was = sym o ∙ h; fits = λ f n. l.pairs.typed z a b f before after (sym o ∙ h) (sym j ∙ n) }
@@ -239,9 +238,6 @@ module _ (source : Program) (c d : Configuration) (l : Lawful source c) (p : Who
       }
 
   -- Part 6
-
-  tells : TellsApart same_end
-  tells = record { is = same_end-is; own = same_end-refl }
 
   -- the graph where each end but x and y still stands where it stood
   abbrev between : Graph End Node
@@ -281,7 +277,7 @@ module _ (source : Program) (c d : Configuration) (l : Lawful source c) (p : Who
   ]
 
   forest : NoCycle (graph d place2)
-  forest = gives-up-forest same_end tells between (graph d place2) (record { partners = refl; others = now-stands }) first-forest
+  forest = gives-up-forest same_end ends-apart between (graph d place2) (record { partners = refl; others = now-stands }) first-forest
 
   -- Part 7
 

@@ -41,8 +41,3 @@ pair-behind (Word v ∷ ms) ns (m ∷ before) a b after i h =
 pair-behind (Pick n ∷ ms) ns (m ∷ before) a b after i h =
     let head : Pick n ≡ m = cc h in
     subst (λ (z : Message). LiesBehind (Pick n ∷ ms) ns (z ∷ before) a b after) head (later (Pick n) ms ns before a b after (pair-behind ms ns before a b after i (cc h)))
-
--- a list with a pair isn't empty
-pub not-empty : (ms before : List Message) (a b : End) (after : List Message) → ms ≡ before ++ (EndPair a b ∷ after) → ms ≡ [] → ⊥
-not-empty ms [] a b after i j = absurd (cc (i, j))
-not-empty ms (m ∷ before) a b after i j = absurd (cc (i, j))

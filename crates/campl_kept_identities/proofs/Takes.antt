@@ -1,5 +1,5 @@
--- What views take: lists one after the other, and that of a view and the same from the other side only one takes.
-use Rattle.std.proofs.Common.{◌≡◌, List, [], ◌∷◌, ◌++◌, ◌⊎◌, inl, inr, refl, sym, ap, subst, ◌∙◌, Bool, true, false}
+-- What views take: of a view and the same from the other side only one takes.
+use Rattle.std.proofs.Common.{◌≡◌, List, [], ◌∷◌, ◌⊎◌, inl, inr, refl, sym, ap, subst, ◌∙◌, Bool, true, false}
 use Rattle.campl_tree.specs.declared.service.Side.{Side}
 use Rattle.campl_tree.specs.Side.{opposite}
 use Rattle.campl_tree.specs.Plain.ChanType.{ChanType}
@@ -29,12 +29,6 @@ one-side-takes w v [] ns m n a b = inl refl
 one-side-takes w v (l ∷ ms) [] m n a b = inr refl
 one-side-takes w v (l ∷ ms) (k ∷ ns) m n (u, a, c) (x, b, e) =
     absurd (one-taken w (side_of v) (side_of (turned v)) (deed_of w v) l k u x a (subst (λ (q : Deed). taken_at w (side_of (turned v)) q k x) (deed-of-turned w v) b))
-
--- One list after another
-
-pub takes-both : (w : World) (v m n : View) (ms ns : List Message) → TakesAll w v ms m → TakesAll w m ns n → TakesAll w v (ms ++ ns) n
-takes-both w v m n [] ns a b = subst (λ (z : View). TakesAll w z ns n) (sym a) b
-takes-both w v m n (x ∷ ms) ns (u, t, a) b = (u, t, takes-both w u m n ms ns a b)
 
 -- Two ends that an identity joins
 

@@ -26,7 +26,7 @@ use Rattle.campl_meaning.proofs.Agreeing.{agree-turned}
 use Rattle.campl_frame.specs.Frame.{Holds, IsSpent, IsOldPair, IsGoodPair, IsLocal}
 use Rattle.campl_frame.proofs.Alone.{IsOneOf, alone-here, alone-others, alone-whose, alone-listed, alone-named}
 use Rattle.campl_frame.proofs.Leaving.{leaving, stays-put, stays-kept, goes-unkept, was-put, was-gone, leaving-forest}
-use Rattle.campl_frame.proofs.Stays.{carries}
+use Rattle.campl_frame.proofs.Stays.{agree-same, carries}
 use Rattle.campl_frame.proofs.Frame.{local-lawful}
 use Rattle.campl_meaning.proofs.Phases.{is_open}
 use Rattle.campl_kept_messages.proofs.Continues.{Continues, keeps_ends, gone_on, of-kind, went-on, held-before, held-after, one-end, end-stood, own-names, own-once, own-type}
@@ -61,9 +61,6 @@ held-here e new channel es x hx one = fun_ext (λ y. elim (split-names x y) [
 -- Partners
 
 module _ (w : World) (c d : Configuration) (channel channel2 : Channels) where
-  pub agree-kept : (e f : End) → channel2 e ≡ channel e → channel2 f ≡ channel f → d.owed e ≡ c.owed e → d.owed f ≡ c.owed f → Agree w c channel e f → Agree w d channel2 e f
-  agree-kept e f ve vf oe of a = record { left = a.left; mine = rw (ve, of) a.mine; yours = rw (vf, oe) a.yours }
-
   -- a step that touches one pair of partners alone
   pub agree-pair : (partner : End → Option End) (e f : End) → ((a b : End) → partner a ≡ Some b → partner b ≡ Some a) → partner e ≡ Some f
       → ((a b : End) → partner a ≡ Some b → e ≢ a → f ≢ a → (channel2 a ≡ channel a) × (d.owed a ≡ c.owed a)) → Agree w d channel2 e f
@@ -81,7 +78,7 @@ module _ (w : World) (c d : Configuration) (channel channel2 : Channels) where
           let fb : f ≢ b = λ k. ea (cc (back a b pa, back e f pe, k)) in
           let sa : (channel2 a ≡ channel a) × (d.owed a ≡ c.owed a) = same a b pa ea fa in
           let sb : (channel2 b ≡ channel b) × (d.owed b ≡ c.owed b) = same b a (back a b pa) eb fb in
-          agree-kept a b sa.0 sb.0 sa.1 sb.1 (all a b pa)
+          agree-same w c d channel channel2 a b (ap view_in sa.0) (ap view_in sb.0) sa.1 sb.1 (all a b pa)
     ]
   ]
 

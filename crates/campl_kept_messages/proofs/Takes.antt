@@ -16,6 +16,7 @@ use Rattle.campl_types.proofs.Turned.{view-turned, answered, deed-turned}
 use Rattle.campl_meaning.specs.States.{Message, Word, Pick, EndPair}
 use Rattle.campl_meaning.specs.Views.{view_of, taken_at, Takes, TakesAll}
 use Rattle.campl_types.specs.Values.{IsValue}
+use Rattle.campl_frame.proofs.Stays.{takes-more}
 use Rattle.campl_types.proofs.Bare.{deed-bare, puts-of, gets-of, picks-of, offers-of}
 use Rattle.campl_types.proofs.SameValue.{value-of-same}
 
@@ -33,11 +34,7 @@ plain w s (Named at x ts) h = refl
 pub view-opposite : (s : Side) (x y : ChanType) → bare_chan x ≡ bare_chan y → turned (view_of s x) ≡ view_of (opposite s) y
 view-opposite s x y e = sym (view-turned s (bare_chan x)) ∙ ap (v.view_of (opposite s)) e
 
--- Lists of messages
-
-pub takes-more : (w : World) (a : View) (ms ns : List Message) (u x : View) → TakesAll w a ms u → TakesAll w u ns x → TakesAll w a (ms ++ ns) x
-takes-more w a [] ns u x e b = subst (λ z. TakesAll w z ns x) (sym e) b
-takes-more w a (m ∷ ms) ns u x (next, t, k) b = (next, t, takes-more w next ms ns u x k b)
+-- Sends
 
 -- a view that takes no message
 abbrev pub TakesNone : World → View → Type 0

@@ -11,10 +11,11 @@ use Rattle.campl_types.specs.Held.{Channel, On}
 use Rattle.campl_meaning.specs.States.{Message, Running, Attending, State, Runs, Serves}
 use Rattle.campl_meaning.specs.Reductions.{Configuration}
 use Rattle.campl_meaning.specs.Views.{TakesAll}
-use Rattle.campl_meaning.specs.Apart.{Place, At, In, Gone, IsPlaced, IsJoined, IsHeldBy, IsNamed, IsOfKind}
+use Rattle.campl_meaning.specs.Apart.{Place, At, In, Gone, IsPlaced, IsJoined, IsNamed, IsOfKind}
 use Rattle.campl_meaning.specs.Lawful.{Channels, seen, Agree, Lawful}
 use Rattle.campl_frame.specs.Frame.{Holds, IsSpent, IsLocal}
 use Rattle.campl_frame.proofs.Alone.{IsOneOf, alone-here, alone-others, alone-whose, alone-listed, alone-named}
+use Rattle.campl_frame.proofs.Held.{own-found}
 use Rattle.campl_frame.proofs.Leaving.{leaving, sorts, stays-put, stays-kept, was-put, was-gone, leaving-forest}
 use Rattle.campl_frame.proofs.Frame.{local-lawful}
 use Rattle.campl_kept_quiet.specs.Quiet.{IsAlike, IsQuiet, behind}
@@ -70,10 +71,6 @@ module _ (source : Program) (c : Configuration) (l : Lawful source c) (p : Path)
       let (at, joined) = placed.held p e (r, y, is, f2) in
       (stays-kept (Process p) q.kept l.place e kept ∙ (at ∙ ap At (sym k)), joined)
 
-  -- and what it held
-  own-end : (e : End) → IsHeldBy c p e → (x : Name) × (found x r.ends ≡ Some e)
-  own-end e (s, x, i, f) = let same : s ≡ r = cc (i, is) in (x, subst (λ (z : Running). found x z.ends ≡ Some e) same f)
-
   stands : (v : Who) (e : End) → IsJoined d e → place2 e ≡ At v → ((s : State) × IsNew v s × Holds s e) ⊎ ((v ≢ Process p) × (l.place e ≡ At v) × IsJoined c e)
   stands v e j i = go (was-put (Process p) q.kept l.place e (At v) i (λ k. cc k)) (split (same_who (Process p) v))
     where
@@ -84,7 +81,7 @@ module _ (source : Program) (c : Configuration) (l : Lawful source c) (p : Path)
         | inl (m, n) ↦
             let pv : Process p ≡ v = same_who-is (Process p) v k in
             let own : l.place e ≡ At (Process p) = at ∙ ap At (sym pv) in
-            let (x, f) = own-end e (placed.holder p e j own) in
+            let (x, f) = own-found source c l p r is e j own in
             let (t, y, g, h) = q.stays x e f (n own) in
             inl (Runs t, (sym pv, ap (option_map Runs) g), (y, h))
       ]
@@ -92,7 +89,7 @@ module _ (source : Program) (c : Configuration) (l : Lawful source c) (p : Path)
   gone : (e : End) → IsJoined d e → place2 e ≡ Gone → IsSpent (q.after e) ⊎ ((l.place e ≡ Gone) × IsJoined c e)
   gone e j i = elim (was-gone (Process p) q.kept l.place e i) [
     | inl g ↦ inr (g, j)
-    | inr (at, k) ↦ let (x, f) = own-end e (placed.holder p e j at) in inl (alike (q.given x e f k))
+    | inr (at, k) ↦ let (x, f) = own-found source c l p r is e j at in inl (alike (q.given x e f k))
   ]
     where
       alike : IsSpent (l.channel e) → IsSpent (q.after e)
