@@ -93,6 +93,7 @@ impl Eval {
         ensures { IfOk result (λ turn. Answers (code_of program.now) (seen self.old.machine.frame) (seens self.old.machine.callers) calls
             (self.old.spent + calls) turn (seen self.new.machine.frame) (seens self.new.machine.callers) self.new.spent) }
     {
+        // Its jumps lead onward, so that the loop ends.
         let _raw = program.raw();
         let mut left = calls;
         loop {
