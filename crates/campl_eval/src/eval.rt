@@ -23,6 +23,9 @@ pub struct Eval {
 }
 
 /// How a turn ended, with all calls that were spent.
+//
+// Its drop is derived, so that a caller can take the values out.
+#[derive(Drop)]
 pub enum Turn {
     /// At a process's instruction, with the values of its expressions.
     Done(Vec<Value>, u64),
@@ -32,15 +35,6 @@ pub enum Turn {
     TooDeep(u64),
     /// An instruction can't be done.
     Faulty(u64),
-}
-
-impl Drop for Turn {
-    fn drop(self) {
-        match self {
-            Turn::Done(values, _) => drop(values),
-            Turn::More | Turn::TooDeep(_) | Turn::Faulty(_) => {}
-        }
-    }
 }
 
 impl Eval {
