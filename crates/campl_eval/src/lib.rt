@@ -1,0 +1,25 @@
+//! Evaluates code: a machine that is given its calls little by little.
+//!
+//! - A [`Frame`] has a place in a block, variables and operands. [`Machine::step`] does the next instruction of the frame in hand:
+//!   a call puts a frame on it, or takes its place where it would only return.
+//! - An [`Eval`] starts at a place of a block. [`Eval::run`] goes on until a process's instruction comes, something breaks, or
+//!   before a call when all calls that it was given are spent; then it goes on with those that it is given next.
+//!
+//! ```text
+//! let mut eval = Eval::start(alloc, block, place, variables);
+//! eval.run(alloc, &program, 100)?      // More: 100 calls aren't enough
+//! eval.run(alloc, &program, 100)?      // Done: the values, and 142 calls were spent
+//! ```
+#![tactic(auto)]
+
+mod calls;
+mod eval;
+mod laws;
+mod machine;
+mod matching;
+mod stack;
+
+pub use eval::{Eval, Turn};
+pub use laws::law_turn;
+pub use machine::{Flow, Frame, Machine};
+pub use stack::Stack;
