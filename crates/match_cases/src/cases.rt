@@ -28,7 +28,7 @@ fn print_case(alloc: Global, source: &str, out: &mut impl Write) -> Result<()> {
     let decision = decision_of(alloc, &world, rows)?;
     writeln!(out, "{} nodes", decision.nodes.len())?;
     for row in values.rows.as_slice() {
-        let values = values_of(alloc, &world, row.patterns.as_slice())?;
+        let values = values_of(alloc, &world, row.patterns.as_slice()).context("no values")?;
         print_found(&decision, &values, out)?;
     }
     Ok(())

@@ -1,74 +1,101 @@
 //! Values written as patterns.
-use anyhow::{Context, Result, bail};
 use campl_names::{ConstructorRef, World};
 use campl_tree::{Name, Pattern};
 use campl_value::{Made, Value};
-use std::alloc::Global;
+use std::alloc::{AllocError, Global};
 
-/// The values that patterns without variables and `_` write.
+/// The values that patterns write; None where one has a variable or `_` in it, or is too deep, or memory is out.
 #[cycle(value)]
-pub fn values_of(alloc: Global, world: &World, patterns: &[Pattern]) -> Result<Vec<Value>> {
+pub fn values_of(alloc: Global, world: &World, patterns: &[Pattern]) -> Option<Vec<Value>> {
     let mut values = Vec::new(alloc);
     for p in patterns {
-        let value = value_of(alloc, world, p)?;
-        values.push(value)?;
+        match value_of(alloc, world, p) {
+            None => return None,
+            Some(value) => match values.push(value) {
+                Ok(()) => {}
+                Err(_) => return None,
+            },
+        }
     }
-    Ok(values)
+    Some(values)
 }
 
 #[cycle(value)]
-fn value_of(alloc: Global, world: &World, p: &Pattern) -> Result<Value> {
+fn value_of(alloc: Global, world: &World, p: &Pattern) -> Option<Value> {
     match p {
-        Pattern::Wildcard(_) | Pattern::Variable(_, _) => bail!("that is no value"),
-        Pattern::Number(_, n) => Ok(Value::int(*n)),
-        Pattern::Negative(_, n) => Ok(Value::int(n.checked_neg().context("too small")?)),
-        Pattern::Character(_, c) => Ok(Value::character(*c)),
-        Pattern::Text(_, text) => made(Value::text_of(alloc, text.as_slice())?),
-        Pattern::True(_) => Ok(Value::truth(true)),
-        Pattern::False(_) => Ok(Value::truth(false)),
-        Pattern::Constructor(_, name, ps) => {
-            let parts = values_of(alloc, world, ps.as_slice())?;
-            made(Value::construct(alloc, number_of(world, name)?, parts)?)
-        }
-        Pattern::List(_, ps) => list_of(alloc, world, ps.as_slice()),
-        Pattern::Pair(_, p, q) => {
-            let first = value_of(alloc, world, p.get())?;
-            let second = value_of(alloc, world, q.get())?;
-            made(Value::pair(alloc, first, second)?)
-        }
-        Pattern::Cons(_, p, q) => {
-            let head = value_of(alloc, world, p.get())?;
-            let tail = value_of(alloc, world, q.get())?;
-            made(Value::cell(alloc, head, tail)?)
-        }
+        Pattern::Wildcard(_) | Pattern::Variable(_, _) => None,
+        Pattern::Number(_, n) => Some(Value::int(*n)),
+        Pattern::Negative(_, n) => opposite(*n),
+        Pattern::Character(_, c) => Some(Value::character(*c)),
+        Pattern::Text(_, text) => made(Value::text_of(alloc, text.as_slice())),
+        Pattern::True(_) => Some(Value::truth(true)),
+        Pattern::False(_) => Some(Value::truth(false)),
+        Pattern::Constructor(_, name, ps) => match values_of(alloc, world, ps.as_slice()) {
+            None => None,
+            Some(parts) => built(alloc, world, name, parts),
+        },
+        Pattern::List(_, ps) => match values_of(alloc, world, ps.as_slice()) {
+            None => None,
+            Some(items) => list_of(alloc, items),
+        },
+        Pattern::Pair(_, p, q) => match value_of(alloc, world, p.get()) {
+            None => None,
+            Some(first) => match value_of(alloc, world, q.get()) {
+                None => None,
+                Some(second) => made(Value::pair(alloc, first, second)),
+            },
+        },
+        Pattern::Cons(_, p, q) => match value_of(alloc, world, p.get()) {
+            None => None,
+            Some(head) => match value_of(alloc, world, q.get()) {
+                None => None,
+                Some(tail) => made(Value::cell(alloc, head, tail)),
+            },
+        },
+    }
+}
+
+fn opposite(n: i64) -> Option<Value> {
+    match n.checked_neg() {
+        None => None,
+        Some(n) => Some(Value::int(n)),
+    }
+}
+
+fn built(alloc: Global, world: &World, name: &Name, parts: Vec<Value>) -> Option<Value> {
+    match number_of(world, name) {
+        None => None,
+        Some(number) => made(Value::construct(alloc, number, parts)),
+    }
+}
+
+// A constructor's number, where it is one of data.
+fn number_of(world: &World, name: &Name) -> Option<u32> {
+    match world.constructor_named(name) {
+        Some(ConstructorRef::Data(_, number, _)) => match u32::try_from(number) {
+            Ok(number) => Some(number),
+            Err(_) => None,
+        },
+        _ => None,
     }
 }
 
 // A list is made from its end.
-#[cycle(value)]
-fn list_of(alloc: Global, world: &World, items: &[Pattern]) -> Result<Value> {
-    let mut items = values_of(alloc, world, items)?;
+fn list_of(alloc: Global, mut items: Vec<Value>) -> Option<Value> {
     let mut list = Value::nil();
     while let Some(item) = items.pop() {
-        list = made(Value::cell(alloc, item, list)?)?;
+        match made(Value::cell(alloc, item, list)) {
+            None => return None,
+            Some(longer) => list = longer,
+        }
     }
-    Ok(list)
+    Some(list)
 }
 
-fn made(made: Made) -> Result<Value> {
-    match made {
-        Made::Is(value) => Ok(value),
-        Made::TooDeep => bail!("a value is too deep"),
-    }
-}
-
-fn number_of(world: &World, name: &Name) -> Result<u32> {
-    let number = match world.constructor_named(name) {
-        Some(ConstructorRef::Data(_, number, _)) => number,
-        _ => bail!("that is no constructor of data"),
-    };
-    match u32::try_from(number) {
-        Ok(number) => Ok(number),
-        Err(_) => bail!("that is no constructor's number"),
+fn made(outcome: Result<Made, AllocError>) -> Option<Value> {
+    match outcome {
+        Ok(Made::Is(value)) => Some(value),
+        Ok(Made::TooDeep) => None,
+        Err(_) => None,
     }
 }
