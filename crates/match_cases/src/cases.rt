@@ -2,7 +2,7 @@
 use crate::source::world_of;
 use crate::values::values_of;
 use anyhow::{Context, Result, bail};
-use campl_instructions::Decision;
+use campl_instructions::{Decision, Spot};
 use campl_match::compile_match;
 use campl_names::{LowerRef, World};
 use campl_tree::{FunctionDecl, Name};
@@ -23,15 +23,14 @@ pub fn print_cases(alloc: Global, text: &str, out: &mut impl Write) -> Result<()
 
 fn print_case(alloc: Global, source: &str, out: &mut impl Write) -> Result<()> {
     let world = world_of(alloc, source)?;
-    let rows = function_named(alloc, &world, "rows")?;
-    let values = function_named(alloc, &world, "values")?;
-    let decision = decision_of(alloc, &world, rows)?;
-    writeln!(out, "{} nodes", decision.nodes.len())?;
-    for row in values.rows.as_slice() {
-        let values = values_of(alloc, &world, row.patterns.as_slice()).context("no values")?;
-        print_found(&decision, &values, out)?;
-    }
-    Ok(())
+    print_world(alloc, &world, out)
+}
+
+fn print_world(alloc: Global, world: &World, out: &mut impl Write) -> Result<()> {
+    let rows = function_named(alloc, world, "rows")?;
+    let values = function_named(alloc, world, "values")?;
+    let decision = decision_of(alloc, world, rows)?;
+    print_decision(alloc, world, &decision, values, out)
 }
 
 fn function_named<'w>(alloc: Global, world: &'w World, name: &str) -> Result<&'w FunctionDecl> {
@@ -50,10 +49,32 @@ fn decision_of(alloc: Global, world: &World, f: &FunctionDecl) -> Result<Decisio
     Ok(compile_match(alloc, world, width, f.rows.as_slice())?)
 }
 
+fn print_decision(
+    alloc: Global,
+    world: &World,
+    decision: &Decision,
+    values: &FunctionDecl,
+    out: &mut impl Write,
+) -> Result<()> {
+    writeln!(out, "{} nodes", decision.nodes.len())?;
+    for row in values.rows.as_slice() {
+        match values_of(alloc, world, row.patterns.as_slice()) {
+            Some(values) => print_found(decision, &values, out)?,
+            None => bail!("a row is no list of values"),
+        }
+    }
+    Ok(())
+}
+
 fn print_found(decision: &Decision, values: &[Value], out: &mut impl Write) -> Result<()> {
-    let Some((row, spots)) = decision.find(values) else {
-        return Ok(writeln!(out, "no row")?);
-    };
+    match decision.find(values) {
+        None => Ok(writeln!(out, "no row")?),
+        Some((row, spots)) => print_row(row, spots, out),
+    }
+}
+
+// A row's number, and the places of its variables.
+fn print_row(row: u32, spots: &[Spot], out: &mut impl Write) -> Result<()> {
     write!(out, "row {row}")?;
     for spot in spots {
         print_spot(spot.as_slice(), out)?;
