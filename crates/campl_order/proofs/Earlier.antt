@@ -3,11 +3,11 @@ use Rattle.std.proofs.Common.{◌≡◌, ◌≢◌, ◌<◌, ◌≤◌, ◌+◌,
 use Rattle.std.proofs.lemmas.List.{get_or_append_left, get_or_push}
 use Rattle.campl_machine.specs.Names.{Birth, Path, Who, Process, Service, same_birth}
 use Rattle.campl_machine.proofs.Same.{same_birth-is, same_birth-refl}
-use Rattle.campl_machine.proofs.Updates.{split, decides}
+use Rattle.campl_machine.proofs.Updates.{split}
 use Rattle.campl_meaning.specs.OneAtATime.{is_birth_before, are_births_before, is_before}
 use Rattle.campl_meaning.proofs.Order.{before-itself, WhoLess, who-less, less-who, who-trans, who-itself, who-tell}
 use Rattle.campl_order.specs.declared.order.Rank.{Rank}
-use Rattle.campl_order.specs.Orders.{Ranked, IsServiceRank, IsProcessRank, IsBorn, IsJump, IsAbove, IsChild, rank, no_rank, birth, service_depth}
+use Rattle.campl_order.specs.Orders.{Ranked, IsServiceRank, IsProcessRank, IsAbove, IsChild, rank, no_rank, birth, service_depth}
 use Rattle.campl_order.specs.Boards.{earlier}
 use Rattle.campl_order.proofs.Matches.{IsOrder, same}
 

@@ -1,5 +1,5 @@
 -- What ranks tell of the names of processes and services.
-use Rattle.std.specs.Prelude.{◌≡◌, ◌≢◌, ◌⊎◌, ◌≤◌, ◌<◌, ◌+◌, ◌^◌, ◌-◌, ℕ, suc, List, [], ◌∷◌, ◌++◌, length, slice_index_or}
+use Rattle.std.specs.Prelude.{◌≡◌, ◌≢◌, ◌⊎◌, ◌≤◌, ◌<◌, ◌^◌, ◌-◌, ℕ, List, [], ◌∷◌, ◌++◌, length, slice_index_or}
 use Rattle.campl_machine.specs.Names.{Birth, Path, Who, Process, Service}
 use Rattle.campl_order.specs.declared.order.Rank.{Rank}
 

@@ -44,6 +44,13 @@ impl Order {
         self.ranks.reserve(1)
     }
 
+    /// How many there are.
+    pub fn len(&self) -> usize
+        ensures { result ≡ vec_len self.now.ranks }
+    {
+        self.ranks.len()
+    }
+
     fn rank(&self, number: u32) -> Rank
         requires { number < vec_len self.now.ranks }
         ensures { result ≡ rank self.now.ranks.items number }

@@ -1,4 +1,4 @@
-use Rattle.std.proofs.Common.{◌+◌, arith, refl, ap, sym, ◌∙◌, subst}
+use Rattle.std.proofs.Common.{◌+◌, arith, refl, ap, sym, subst}
 use Rattle.campl_order.specs.Orders.{Ranked}
 use Rattle.campl_order.specs.declared.order.Rank.{Rank}
 use Rattle.campl_order.proofs.Earlier.{child-ranked}
