@@ -13,9 +13,7 @@ pub struct Spare {
 }
 
 impl Model for Spare {
-
     ghost Value = { Unit {0} };
-
 
     ghost view = { λ _. tt };
 }
