@@ -4,11 +4,11 @@ ghost use Rattle.campl_code.specs.Frames.{frame_at};
 ghost use Rattle.campl_code_bodies.specs.Commands.{Cell};
 ghost use Rattle.campl_code_bodies.specs.Kept.{IsKept, spent_more};
 ghost use Rattle.campl_eval.specs.View.{code_of, seen, seens};
-ghost use Rattle.campl_kept.specs.View.{view_kept, is_lost};
-ghost use Rattle.campl_kept.specs.Keeps.{Keeps, Comes};
+ghost use Rattle.campl_kept.specs.View.{view_kept, is_lost, came_to, IsValues};
+ghost use Rattle.campl_kept.specs.Keeps.{Keeps};
 
 use campl_eval::{Eval, Turn};
-use campl_operands::Variables;
+use campl_operands::{Variables, copies};
 use campl_program::Program;
 use campl_value::Value;
 use std::alloc::{AllocError, Global};
@@ -52,25 +52,35 @@ impl Kept {
 
     /// Gives so many more calls, which change nothing but where it stands before one. The error means that memory is out, and
     /// comes from then on: what was kept is lost. Copy it first where it must stay.
-    pub fn advance(&mut self, alloc: Global, program: &Program, calls: u64) -> Result<(), AllocError>
+    pub fn advance(
+        &mut self,
+        alloc: Global,
+        program: &Program,
+        calls: u64,
+    ) -> Result<(), AllocError>
         ensures kept { OnOk result ((c : Cell) → IsKept (code_of program.now) c (view_kept self.old) → IsKept (code_of program.now) (spent_more calls c) (view_kept self.new)) }
         ensures ok { OnOk result (is_lost self.old ≡ false) }
         ensures out { OnErr result (is_lost self.new ≡ true) }
     {
-        let Kept::AtCall(eval) = self else {
-            return Ok(());
+        let came = match self {
+            Kept::Values { .. } => return Ok(()),
+            Kept::Broken => return Ok(()),
+            Kept::AtCall(eval) => match go_on(alloc, program, eval, calls) {
+                Err(error) => return Err(error),
+                Ok(came) => came,
+            },
         };
-        match go_on(alloc, program, eval, calls) {
-            Err(error) => return Err(error),
-            Ok(None) => {}
-            Ok(Some(kept)) => *self = kept,
+        match came {
+            None => {}
+            Some(kept) => *self = kept,
         }
         Ok(())
     }
 
     /// The same again, which shares the parts of its values with this one. An error means that memory is out.
     pub fn copy(&self, alloc: Global) -> Result<Kept, AllocError>
-        ensures { IfOk result (λ copy. copy ≡ self.now) }
+        ensures kept { IfOk result (λ copy. view_kept copy ≡ view_kept self.now) }
+        ensures lost { IfOk result (λ copy. is_lost copy ≡ is_lost self.now) }
     {
         match self {
             Kept::Values {
@@ -93,7 +103,8 @@ fn copy_values(
     variables: &Variables,
     values: &[Value],
 ) -> Result<Kept, AllocError>
-    ensures { IfOk result (λ copy. IsValues copy at variables.now values.now) }
+    ensures kept { IfOk result (λ copy. IsValues copy at variables.now values.now) }
+    ensures lost { IfOk result (λ copy. is_lost copy ≡ false) }
 {
     let Ok(values) = copies(alloc, values) else {
         return Err(AllocError);
@@ -115,7 +126,7 @@ fn go_on(
     eval: &mut Eval,
     calls: u64,
 ) -> Result<Option<Kept>, AllocError>
-    ensures came { IfOk result (λ came. Keeps (code_of program.now) (seen eval.old.machine.frame) (seens eval.old.machine.callers) calls (now_kept came (seen eval.new.machine.frame) (seens eval.new.machine.callers))) }
+    ensures came { IfOk result (λ came. Keeps (code_of program.now) (seen eval.old.machine.frame) (seens eval.old.machine.callers) calls (came_to came (seen eval.new.machine.frame) (seens eval.new.machine.callers))) }
     ensures ok { OnOk result (eval.old.is_out ≡ false) }
     ensures out { OnErr result (eval.new.is_out ≡ true) }
 {
