@@ -1,14 +1,12 @@
 -- The parts of a configuration by number: its processes and services, and the ends of its channels.
 use Rattle.std.specs.Prelude.{ℕ, ◌+◌, ◌*◌, List, [], ◌∷◌, Option, Some, None, if◌then◌else◌, eqb}
-use Rattle.campl_value.specs.Tree.{Tree}
+use Rattle.campl_value.specs.declared.message.Message.{Message}
 use Rattle.campl_service.specs.Services.{Serving}
 use Rattle.campl_code_bodies.specs.Kept.{Kept}
 
 -- a message, whose ends are numbers
-pub data Mail : Type 0 where
-  Word : Tree → Mail
-  Pick : ℕ → Mail
-  EndPair : ℕ → ℕ → Mail
+abbrev pub Mail : Type 0
+Mail = Message
 
 -- the ends of channels by the channels' numbers in the code; a channel that wasn't set has none
 abbrev pub Ends : Type 0

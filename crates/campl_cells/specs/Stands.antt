@@ -3,6 +3,7 @@ use Rattle.std.specs.Prelude.{◌≡◌, ◌≢◌, ◌≤◌, ◌⊎◌, ℕ, s
 use Rattle.std.specs.List.{AllByRecursion}
 use Rattle.std.specs.Option.{IsSomeAnd}
 use Rattle.campl_value.specs.Tree.{Tree}
+use Rattle.campl_value.specs.declared.message.Message.TheVariants.{Word, Pick, Ends as EndPair}
 use Rattle.campl_machine.specs.Names.{Birth, Path, End, Who, Process, Service}
 use Rattle.campl_machine.specs.Graph.{Mutual}
 use Rattle.campl_service.specs.Services as services
@@ -14,7 +15,7 @@ use Rattle.campl_code_bodies.specs.Commands as k
 use Rattle.campl_code_bodies.specs.Commands.{Cell, CodeState, RunsCode, Beside}
 use Rattle.campl_code_bodies.specs.Kept.{IsKept}
 use Rattle.campl_code_bodies.specs.Running.{CodeConfiguration}
-use Rattle.campl_cells.specs.Parts.{Mail, Word, Pick, EndPair, Ends, Held, Life, Ended, Runs, Serves, Proc, Tip, Parts, near, far, or_bare, or_else}
+use Rattle.campl_cells.specs.Parts.{Mail, Ends, Held, Life, Ended, Runs, Serves, Proc, Tip, Parts, near, far, or_bare, or_else}
 use Rattle.campl_cells.specs.Wants.{Drawn}
 use Rattle.campl_cells.specs.Steps.{Entry, Change, IsLifeOf, IsChildOf, after}
 
@@ -97,22 +98,22 @@ abbrev pub birth : ℕ → Birth
 birth step = record { step = step; place = 1 }
 
 -- a process of this path is the first one, or the child of its parent at the step of its birth, which the parent has made
-pub record IsBorn (n : Naming) (m : Parts) (q : Proc) (path : Path) : Type 0 where
+pub record IsBorn (n : Naming) (process : ℕ → Option Proc) (q : Proc) (path : Path) : Type 0 where
   pub parent : Path
   pub named : n.who q.parent ≡ Process parent
   pub path_is : path ≡ parent ++ birth q.born ∷ []
-  pub made : IsSomeAnd (m.process q.parent) (λ r. q.born ≤ r.steps)
+  pub made : IsSomeAnd (process q.parent) (λ r. q.born ≤ r.steps)
 
 -- the process that bore the channel of this end has made the step of its birth
-pub record IsBorneBy (n : Naming) (m : Parts) (e : End) : Type 0 where
+pub record IsBorneBy (n : Naming) (process : ℕ → Option Proc) (e : End) : Type 0 where
   pub number : ℕ
   pub named : n.who number ≡ Process e.bearer
-  pub made : IsSomeAnd (m.process number) (λ q. e.step ≤ q.steps)
+  pub made : IsSomeAnd (process number) (λ q. e.step ≤ q.steps)
 
 -- names come from births, and no name is used twice
 pub record Named (n : Naming) (m : Parts) : Type 0 where
-  pub births : (i : ℕ) → IfSome (m.process i) (λ q. (path : Path) → n.who i ≡ Process path → (path ≡ []) ⊎ IsBorn n m q path)
-  pub bearers : (e : ℕ) → IsSome (m.tip e) → IsBorneBy n m (n.end e)
+  pub births : (i : ℕ) → IfSome (m.process i) (λ q. (path : Path) → n.who i ≡ Process path → (path ≡ []) ⊎ IsBorn n m.process q path)
+  pub bearers : (e : ℕ) → IsSome (m.tip e) → IsBorneBy n m.process (n.end e)
   pub processes : (i j : ℕ) → IsSome (m.process i) → IsSome (m.process j) → n.who i ≡ n.who j → i ≡ j
   pub ends : (e f : ℕ) → IsSome (m.tip e) → IsSome (m.tip f) → n.end e ≡ n.end f → e ≡ f
 
@@ -129,14 +130,14 @@ LifeWithin There Ended = Unit {0}
 LifeWithin There (Runs h) = (k : ℕ) → IfSome (h.ends k) There
 LifeWithin There (Serves e serving) = There e
 
-abbrev pub IsEnd : Parts → ℕ → Type 0
-IsEnd m e = IsSome (m.tip e)
+abbrev pub IsEnd : (ℕ → Option Tip) → ℕ → Type 0
+IsEnd tip e = IsSome (tip e)
 
 -- peers are mutual, and each end that a process or a message holds is there
 pub record Wired (m : Parts) : Type 0 where
   pub peers : Mutual (λ e. (or_bare (m.tip e)).peer)
-  pub held : (i : ℕ) → IfSome (m.process i) (λ q. LifeWithin (IsEnd m) q.life)
-  pub carried : (e : ℕ) → IfSome (m.tip e) (λ t. AllByRecursion (MailWithin (IsEnd m)) t.inbox)
+  pub held : (i : ℕ) → IfSome (m.process i) (λ q. LifeWithin (IsEnd m.tip) q.life)
+  pub carried : (e : ℕ) → IfSome (m.tip e) (λ t. AllByRecursion (MailWithin (IsEnd m.tip)) t.inbox)
 
 -- m stands for c under the naming n
 pub record StandsFor (code : Code) (n : Naming) (m : Parts) (c : CodeConfiguration) : Type 0 where

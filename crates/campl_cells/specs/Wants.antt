@@ -4,8 +4,7 @@ use Rattle.campl_tree.specs.declared.service.Side.{Side}
 use Rattle.campl_tree.specs.declared.service.Side.TheVariants.{Input, Output}
 use Rattle.campl_tree.specs.Side.{opposite}
 use Rattle.campl_value.specs.Tree.{Tree}
-use Rattle.campl_value.specs.declared.message.Message.TheVariants as m
-use Rattle.campl_value.specs.declared.message.Message as of_service
+use Rattle.campl_value.specs.declared.message.Message.TheVariants.{Word, Pick, Ends as EndPair}
 use Rattle.campl_service.specs.declared.phase.Want.TheVariants as want
 use Rattle.campl_service.specs.declared.phase.Want as phase
 use Rattle.campl_service.specs.Services as services
@@ -18,7 +17,7 @@ use Rattle.campl_code.specs.Instructions as i
 use Rattle.campl_code.specs.Frames.{frame_of, set_from}
 use Rattle.campl_code_bodies.specs.Commands.{channel_at}
 use Rattle.campl_code_bodies.specs.Kept.{Kept, Values, AtCall, Broken}
-use Rattle.campl_cells.specs.Parts.{Mail, Word, Pick, EndPair, Ends, Held, Life, Ended, Runs, Serves, near, far}
+use Rattle.campl_cells.specs.Parts.{Mail, Ends, Held, Life, Ended, Runs, Serves, near, far}
 
 -- the numbers for what a step may bear: a child and two channels
 pub record Drawn : Type 0 where
@@ -116,6 +115,21 @@ called code h g channels values b = record {
   ends = λ n. end_at h.ends (slice_get channels n);
 }
 
+-- how it goes on with the message that it looked at
+
+abbrev pub after_get : Held → (at : ℕ) → List Tree → (variable : ℕ) → Mail → Option Next
+after_get h at vars variable = word_to (λ u. Some (onward h at (slice_set vars variable u) h.ends))
+
+abbrev pub after_split : Held → (at : ℕ) → List Tree → (left right : ℕ) → Mail → Option Next
+after_split h at vars left right = ends_to (λ f g. Some (onward h at vars (set_end right g (set_end left f h.ends))))
+
+abbrev pub after_offer : Held → List Tree → (targets : List ℕ) → Mail → Option Next
+after_offer h vars targets = pick_to (λ number. option_map (λ to. onward h to vars h.ends) (slice_get targets number))
+
+-- a race leaves the message
+abbrev pub after_choose : Held → List Tree → (to : ℕ) → Mail → Option Next
+after_choose h vars to mail = Some (onward h to vars h.ends)
+
 -- the end of the channel of each branch is set
 abbrev pub are_set : List Instr → Ends → List ℕ → Bool
 are_set block ends [] = true
@@ -125,7 +139,7 @@ are_set block ends (to ∷ targets) = is_some (end_at ends (channel_at block to)
 abbrev pub chooses : Held → List Instr → List Tree → ℕ → Option ℕ → Want
 chooses h block vars branch None = Rests
 chooses h block vars branch (Some to) =
-    with_found (end_at h.ends (channel_at block to)) (λ e. Looks (k.Choose branch) false e (λ mail. Some (onward h to vars h.ends)))
+    with_found (end_at h.ends (channel_at block to)) (λ e. Looks (k.Choose branch) false e (after_choose h vars to))
 
 -- the end of a new channel on this side; that on the output side is the first
 abbrev pub end_on : Side → (channel : ℕ) → ℕ
@@ -136,18 +150,15 @@ end_on Input c = far c
 abbrev pub behind : Code → Drawn → Held → List Instr → (branch at : ℕ) → (vars values : List Tree) → Instr → Want
 behind code d h block branch at vars values (i.Put n) =
     with_found (h.ends n) (λ e. with_one values (λ v. sends k.Put e (Word v) (onward h (at + 1) vars h.ends)))
-behind code d h block branch at vars values (i.Get n m) =
-    with_found (h.ends n) (λ e. Looks k.Get true e (word_to (λ u. Some (onward h (at + 1) (slice_set vars m u) h.ends))))
-behind code d h block branch at vars values (i.Pick n m) =
-    with_found (h.ends n) (λ e. sends k.Pick' e (Pick m) (onward h (at + 1) vars h.ends))
-behind code d h block branch at vars values (i.Split n l r) =
-    with_found (h.ends n) (λ e. Looks k.Split true e (ends_to (λ f g. Some (onward h (at + 1) vars (set_end r g (set_end l f h.ends))))))
+behind code d h block branch at vars values (i.Get n v) = with_found (h.ends n) (λ e. Looks k.Get true e (after_get h (at + 1) vars v))
+behind code d h block branch at vars values (i.Pick n number) =
+    with_found (h.ends n) (λ e. sends k.Pick' e (Pick number) (onward h (at + 1) vars h.ends))
+behind code d h block branch at vars values (i.Split n l r) = with_found (h.ends n) (λ e. Looks k.Split true e (after_split h (at + 1) vars l r))
 behind code d h block branch at vars values (i.Close n) =
     with_found (h.ends n) (λ e. quiet k.Close (Some e) (onward h (at + 1) vars h.ends))
 behind code d h block branch at vars values (i.Halt None) = quiet k.Halt None Gone
 behind code d h block branch at vars values (i.Halt (Some n)) = with_found (h.ends n) (λ e. quiet k.Halt (Some e) Gone)
-behind code d h block branch at vars values (i.Offer n targets) =
-    with_found (h.ends n) (λ e. Looks k.Offer true e (pick_to (λ m. option_map (λ to. onward h to vars h.ends) (slice_get targets m))))
+behind code d h block branch at vars values (i.Offer n targets) = with_found (h.ends n) (λ e. Looks k.Offer true e (after_offer h vars targets))
 behind code d h block branch at vars values (i.Fork n l r to) =
     with_found (h.ends n) (λ e. Moves k.Fork (Some e) (record {
       send = Some (e, EndPair (far d.channel) (far d.channel2));
@@ -187,26 +198,21 @@ kept_want code d h branch Broken = Rests
 
 -- Services
 
--- a message as a service hears it
-abbrev pub heard : Mail → of_service.Message
-heard (Word v) = m.Word v
-heard (Pick n) = m.Pick n
-heard (EndPair e f) = m.Ends 0 0
+-- what a service says; it sends no ends
+abbrev pub spoken : ℕ → Mail → Option (ℕ × Mail)
+spoken e (Word v) = Some (e, Word v)
+spoken e (Pick n) = Some (e, Pick n)
+spoken e (EndPair a b) = None
 
-abbrev pub spoken : ℕ → of_service.Message → Option (ℕ × Mail)
-spoken e (m.Word v) = Some (e, Word v)
-spoken e (m.Pick n) = Some (e, Pick n)
-spoken e (m.Ends a b) = None
-
-abbrev pub said : ℕ → Option of_service.Message → Option (ℕ × Mail)
+abbrev pub said : ℕ → Option Mail → Option (ℕ × Mail)
 said e None = None
-said e (Some m) = spoken e m
+said e (Some mail) = spoken e mail
 
 abbrev pub served : ℕ → Action → Next
 served e a = Attends e a.0
 
 abbrev pub hears : ℕ → Serving → Mail → Option Next
-hears e s mail = option_map (served e) (services.action s (Some (heard mail)))
+hears e s mail = option_map (served e) (services.action s (Some mail))
 
 abbrev pub says : ℕ → Option Action → Want
 says e None = Rests

@@ -17,3 +17,7 @@ pub fn law_frame()
     ensures { (code : Code) (d : Drawn) (m : Parts) (p : ℕ) (q : Proc) (i : ℕ) (change : Change) (life : Life) (child : Option Life)
         → change_of code d m p q i ≡ Some change → ElseStays code d m p q i (after d m p q change life child) }
 {}
+
+pub fn probe()
+    ensures { (n : ℕ) → n ≡ n }
+{}
