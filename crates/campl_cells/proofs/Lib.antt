@@ -4,3 +4,6 @@ pub mod Channels
 pub mod Sending
 pub mod Receiving
 pub mod Linking
+pub mod Nodes
+pub mod Together
+pub mod Renamed

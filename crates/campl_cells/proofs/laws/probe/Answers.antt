@@ -5,5 +5,10 @@ use Rattle.campl_cells.proofs.Sending.{sending}
 use Rattle.campl_cells.proofs.Receiving.{taking}
 use Rattle.campl_cells.proofs.Linking.{linking}
 
+use Rattle.campl_cells.proofs.Nodes.{node-written, child-births}
+use Rattle.campl_cells.proofs.Together.{together}
+
+use Rattle.campl_cells.proofs.Renamed.{renamed}
+
 pub returns : goal.returns
 returns c n = refl
