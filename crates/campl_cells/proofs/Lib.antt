@@ -7,3 +7,8 @@ pub mod Linking
 pub mod Nodes
 pub mod Together
 pub mod Renamed
+pub mod Alike
+pub mod Doing
+pub mod Serving
+pub mod Fresh
+pub mod Moving

@@ -2,7 +2,8 @@
 use Rattle.std.proofs.Common.{◌≡◌, ◌≢◌, ◌⊎◌, inl, inr, ℕ, Bool, true, false, List, [], ◌∷◌, ◌++◌, Option, Some, None, IsSome, IfSome, eqb, refl, sym, ap, subst, ◌∙◌, eq-eqb, ne_eqb, eqb-true, cond, true≢false}
 use Rattle.std.specs.List.{AllByRecursion}
 use Rattle.std.specs.Option.{IsSomeAnd}
-use Rattle.campl_cells.specs.Parts.{put}
+use Rattle.campl_machine.specs.Machine.{Lies}
+use Rattle.campl_cells.specs.Parts.{put, written}
 
 pub split : (b : Bool) → (b ≡ true) ⊎ (b ≡ false)
 split true = inl refl
@@ -68,3 +69,36 @@ all-append P (x ∷ xs) ys h k = (h.0, all-append P xs ys h.1 k)
 pub all-wider : {A : Type 0} (P Q : A → Type 0) → ((x : A) → P x → Q x) → (xs : List A) → AllByRecursion P xs → AllByRecursion Q xs
 all-wider P Q f [] h = tt
 all-wider P Q f (x ∷ xs) h = (f x h.0, all-wider P Q f xs h.1)
+
+-- Lists that are written
+
+pub put-keeps : {A : Type 0} (i : ℕ) (x : A) (f : ℕ → Option A) (k : ℕ) → IsSome (f k) → IsSome (put i (Some x) f k)
+put-keeps i x f k h = put-both (λ k o. IsSome (f k) → IsSome o) i (Some x) f k (λ h. refl) (λ ne h. h) h
+
+pub put-there : {A : Type 0} (i : ℕ) (x : A) (f : ℕ → Option A) → IsSome (put i (Some x) f i)
+put-there i x f = subst IsSome (sym (put-here i (Some x) f)) refl
+
+pub written-keeps : {A : Type 0} (es : List (ℕ × A)) (f : ℕ → Option A) (k : ℕ) → IsSome (f k) → IsSome (written es f k)
+written-keeps [] f k h = h
+written-keeps (e ∷ es) f k h = put-keeps e.0 e.1 (written es f) k (written-keeps es f k h)
+
+pub written-lies : {A : Type 0} (es : List (ℕ × A)) (f : ℕ → Option A) (k : ℕ) → Lies es k → IsSome (written es f k)
+written-lies [] f k l = absurd l
+written-lies (e ∷ es) f k (inl q) = subst (λ k. IsSome (put e.0 (Some e.1) (written es f) k)) q (put-there e.0 e.1 (written es f))
+written-lies (e ∷ es) f k (inr l) = put-keeps e.0 e.1 (written es f) k (written-lies es f k l)
+
+-- what is there was there, or is written
+pub written-from : {A : Type 0} (es : List (ℕ × A)) (f : ℕ → Option A) (k : ℕ) → IsSome (written es f k) → IsSome (f k) ⊎ Lies es k
+written-from [] f k h = inl h
+written-from (e ∷ es) f k h = elim (same e.0 k) [
+  | inl q ↦ inr (inl q)
+  | inr n ↦ elim (written-from es f k (subst IsSome (put-else e.0 k (Some e.1) (written es f) n) h)) [ inl a ↦ inl a | inr l ↦ inr (inr l) ]
+]
+
+pub written-else : {A : Type 0} (es : List (ℕ × A)) (f : ℕ → Option A) (k : ℕ) → (Lies es k → ⊥) → written es f k ≡ f k
+written-else [] f k n = refl
+written-else (e ∷ es) f k n = put-else e.0 k (Some e.1) (written es f) (λ q. n (inl q)) ∙ written-else es f k (λ l. n (inr l))
+
+pub written-append : {A : Type 0} (es fs : List (ℕ × A)) (f : ℕ → Option A) → written (es ++ fs) f ≡ written es (written fs f)
+written-append [] fs f = refl
+written-append (e ∷ es) fs f = ap (put e.0 (Some e.1)) (written-append es fs f)

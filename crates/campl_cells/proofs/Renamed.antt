@@ -33,9 +33,9 @@ module _ (f g : ℕ → End) (There : ℕ → Type 0) (same : (e : ℕ) → Ther
   mails-same [] h = refl
   mails-same (x ∷ xs) h = ap₂ ◌∷◌ (mail-same x h.0) (mails-same xs h.1)
 
-  pub node-same : (code : Code) (v w : Who) (steps : ℕ) (life : Life) (node : Option CodeState) → w ≡ v → LifeWithin There life → IsNode code f v steps life node → IsNode code g w steps life node
-  node-same code v w steps Ended node e h is = is
-  node-same code v w steps (Runs held) node e h is = record {
+  pub node-same : (code : Code) (v w : Who) (steps : ℕ) (life : Life) (found : Option CodeState) → w ≡ v → LifeWithin There life → IsNode code f v steps life found → IsNode code g w steps life found
+  node-same code v w steps Ended found e h is = is
+  node-same code v w steps (Runs held) found e h is = record {
     path = is.path;
     process = e ∙ is.process;
     at = is.at;
@@ -44,7 +44,7 @@ module _ (f g : ℕ → End) (There : ℕ → Type 0) (same : (e : ℕ) → Ther
     runs = is.runs ∙ (let mk : k.Ends → Option CodeState = λ ends. Some (RunsCode (record { block = held.block; at = is.at; vars = is.vars; ends = ends; steps = steps; spent = is.spent })) in ap mk (ends-same held.ends h));
     kept = is.kept;
   }
-  node-same code v w steps (Serves end serving) node e h is = record {
+  node-same code v w steps (Serves end serving) found e h is = record {
     number = is.number;
     service = e ∙ is.service;
     serves = is.serves ∙ (let mk : End → Option CodeState = λ x. Some (Beside (s.Serves (record { end = x; serving = serving }))) in ap mk (sym (same end h)));

@@ -10,5 +10,10 @@ use Rattle.campl_cells.proofs.Together.{together}
 
 use Rattle.campl_cells.proofs.Renamed.{renamed}
 
+use Rattle.campl_cells.proofs.Doing.{kept-as}
+use Rattle.campl_cells.proofs.Serving.{serving-as}
+
+use Rattle.campl_cells.proofs.Fresh.{drawn-grows}
+
 pub returns : goal.returns
 returns c n = refl
