@@ -12,3 +12,6 @@ pub mod Doing
 pub mod Serving
 pub mod Fresh
 pub mod Moving
+pub mod Nearby
+pub mod Looking
+pub mod Theorem

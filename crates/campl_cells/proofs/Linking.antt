@@ -215,3 +215,6 @@ module _ (name : ℕ → End) (tip : ℕ → Option Tip) (partner : End → Opti
         (all-append (MailWithin (IsEnd tip2)) (or_bare (tip y2)).inbox (or_bare (tip x)).inbox (wider (or_bare (tip y2)).inbox (z.carried y2)) (wider (or_bare (tip x)).inbox (z.carried x)))
         (λ k nx ny nx2 ny2. wider (or_bare (tip k)).inbox (z.carried k));
   }
+
+  pub linking-before : (k : ℕ) → IsSome (tip2 k) → IsSome (tip k)
+  linking-before = before

@@ -34,8 +34,8 @@ module _ (name : ℕ → End) (tip : ℕ → Option Tip) (partner : End → Opti
   pub taking-keeps : (k : ℕ) → IsSome (tip k) → IsSome (tip2 k)
   taking-keeps k h = put-both (λ k o. IsSome (tip k) → IsSome o) e (Some new) tip k (λ h. refl) (λ n h. h) h
 
-  before : (k : ℕ) → IsSome (tip2 k) → IsSome (tip k)
-  before k h = put-both (λ k o. IsSome o → IsSome (tip k)) e (Some new) tip k (λ h. there) (λ n h. h) h
+  pub taking-before : (k : ℕ) → IsSome (tip2 k) → IsSome (tip k)
+  taking-before k h = put-both (λ k o. IsSome o → IsSome (tip k)) e (Some new) tip k (λ h. there) (λ n h. h) h
 
   owner-e : owner tip e ≡ f
   owner-e = ap (λ o. or_else o e) pf
@@ -60,13 +60,13 @@ module _ (name : ℕ → End) (tip : ℕ → Option Tip) (partner : End → Opti
 
   pub taking : TipsStand name tip2 partner (taken true (name f) owed)
   taking = record {
-    partner_is = λ k h. z.partner_is k (before k h) ∙ ap (option_map name) (sym (peer k));
+    partner_is = λ k h. z.partner_is k (taking-before k h) ∙ ap (option_map name) (sym (peer k));
     owed_is = owed2;
     no_end = λ k h. (
       (z.no_end k (λ g i. h g (taking-keeps g i))).0,
       taken-else (name f) owed k (h f (taking-keeps f f-there)) ∙ (z.no_end k (λ g i. h g (taking-keeps g i))).1,
     );
-    one = λ k g h i q. z.one k g (before k h) (before g i) q;
+    one = λ k g h i q. z.one k g (taking-before k h) (taking-before g i) q;
     peers = record {
       back = λ k g q. peer g ∙ z.peers.back k g (sym (peer k) ∙ q);
       other = λ k q. z.peers.other k (sym (peer k) ∙ q);

@@ -15,5 +15,8 @@ use Rattle.campl_cells.proofs.Serving.{serving-as}
 
 use Rattle.campl_cells.proofs.Fresh.{drawn-grows}
 
+use Rattle.campl_cells.proofs.Moving.{moves-stand}
+use Rattle.campl_cells.proofs.Nearby.{else-stays}
+
 pub returns : goal.returns
 returns c n = refl
