@@ -6,8 +6,11 @@ use Rattle.campl_machine.specs.Machine as machine
 use Rattle.campl_machine.specs.Machine.{Moves, Looks, Links, Stands, Breaks, performs, at, goes, looks_at, links_at}
 use Rattle.campl_machine.proofs.Same.{same_end-refl}
 use Rattle.campl_machine.proofs.Ends.{apart}
+use Rattle.campl_service.specs.declared.phase.Want as phase
+use Rattle.campl_service.specs.declared.phase.Want.TheVariants as want
 use Rattle.campl_service.specs.Services as services
-use Rattle.campl_meaning.specs.States as k
+use Rattle.campl_meaning.specs.States as kinds
+use Rattle.campl_meaning.specs.Wants.{serving_command}
 use Rattle.campl_meaning.specs.States.{Message, Kind}
 use Rattle.campl_meaning.specs.Reductions.{Event}
 use Rattle.campl_code.specs.Instructions.{Code}
@@ -17,7 +20,7 @@ use Rattle.campl_code.proofs.Resume.{settled}
 use Rattle.campl_code_bodies.specs.Commands as commands
 use Rattle.campl_code_bodies.specs.Commands.{Cell, CodeState, RunsCode, Beside, CodeCommand, run_of}
 use Rattle.campl_code_bodies.specs.Kept.{kept_of, IsKept, kept_command}
-use Rattle.campl_code_bodies.specs.Running.{CodeConfiguration, IsEnough, wants, oldest, oldest_in, message_of, children_of, event_of, reduce_command, reduce_state, reduce_code}
+use Rattle.campl_code_bodies.specs.Running.{CodeConfiguration, IsEnough, wants, oldest, oldest_in, message_of, children_of, event_of, command_beside, reduce_command, reduce_state, reduce_code}
 use Rattle.campl_cells.specs.Parts.{Mail, Held, Life, Ended, Runs, Serves, Proc, Tip, Parts, near, far, or_bare, or_else}
 use Rattle.campl_cells.specs.Wants as w
 use Rattle.campl_cells.specs.Wants.{Drawn, Start, Next, Move, Want, Rests, wanted}
@@ -27,7 +30,7 @@ use Rattle.campl_cells.specs.Stands.{Naming, StandsFor, Grows, IsFresh, IsNode, 
 use Rattle.campl_cells.proofs.Puts.{same, if-here, is-there}
 use Rattle.campl_cells.proofs.Tips.{TipsStand, peer-there}
 use Rattle.campl_cells.proofs.Together.{tips-of}
-use Rattle.campl_cells.proofs.Renamed.{renamed, node-same}
+use Rattle.campl_cells.proofs.Renamed.{renamed, ends-same}
 use Rattle.campl_cells.proofs.Alike.{GoesAs, ChildAs, FitsAs, FewChannels, MovesAs, LooksAs, LinksAs, WantAs, named_send, pairs}
 use Rattle.campl_cells.proofs.Doing.{NamesDrawn, kept-as}
 use Rattle.campl_cells.proofs.Serving.{serving-as}
@@ -142,7 +145,7 @@ module _ (code : Code) (n : Naming) (m : Parts) (c : CodeConfiguration) (z : Sta
 
   module _ (x y : ℕ) where
     abbrev link : CodeCommand
-    link = record { kind = k.Link; end = Some (n.end x); second = Some (n.end y); act = Links (n.end x) (n.end y) }
+    link = record { kind = kinds.Link; end = Some (n.end x); second = Some (n.end y); act = Links (n.end x) (n.end y) }
 
     linking-two : (x2 y2 : ℕ) → (or_bare (m.tip x)).peer ≡ Some x2 → (or_bare (m.tip y)).peer ≡ Some y2 →
         Same (reduces link (links_at c who (n.end x) (n.end y) (Some (n.end x2)) (Some (n.end y2)))) (steps.links_at m.tip p x y (Some x2) (Some y2))
@@ -192,12 +195,123 @@ module _ (code : Code) (n : Naming) (m : Parts) (c : CodeConfiguration) (z : Sta
   NamesOf (w.Looks kind takes e g) = Unit {0}
   NamesOf (w.Links x y) = Unit {0}
 
-  by-want : (o : Want) (command : CodeCommand) → NamesOf o → WantAs code n m.tip d who q.steps o command → Same (reduce_command c who command) (by_want m.tip d p o)
-  by-want Rests command names a = subst (λ o. Same o None) (sym (rests command a)) tt
-  by-want (w.Moves kind end v) command names a = moves kind end v command names a
-  by-want (w.Looks kind takes e g) command names a =
+  by-want : (o : Want) (x : CodeCommand) → NamesOf o → WantAs code n m.tip d who q.steps o x → Same (reduce_command c who x) (by_want m.tip d p o)
+  by-want Rests x names a = subst (λ o. Same o None) (sym (rests x a)) tt
+  by-want (w.Moves kind end v) x names a = moves kind end v x names a
+  by-want (w.Looks kind takes e g) x names a =
       subst (λ x. Same (reduce_command c who x) (looks_in p kind takes e g (or_bare (m.tip e)).peer (or_bare (m.tip e)).inbox)) (sym a.is)
       (looking kind takes e g a.look a.there a.fits (or_bare (m.tip e)).peer refl (or_bare (m.tip e)).inbox refl)
-  by-want (w.Links x y) command names a =
+  by-want (w.Links x y) o names a =
       subst (λ o. Same (reduce_command c who o) (steps.links_at m.tip p x y (or_bare (m.tip x)).peer (or_bare (m.tip y)).peer)) (sym a.is)
       (linking-at x y a.there_x a.there_y (or_bare (m.tip x)).peer (or_bare (m.tip y)).peer refl refl)
+
+  names-any : BirthNames n d p q.steps → (o : Want) → NamesOf o
+  names-any b Rests = tt
+  names-any b (w.Moves kind end v) = inr b
+  names-any b (w.Looks kind takes e g) = tt
+  names-any b (w.Links x y) = tt
+
+  says-names : (e : ℕ) (o : Option services.Action) → NamesOf (w.says e o)
+  says-names e None = tt
+  says-names e (Some a) = inl (refl, refl)
+
+  -- a service bears nothing
+  serving-names : (e : ℕ) (s : services.Serving) (o : phase.Want) → NamesOf (w.serving_want e s o)
+  serving-names e s want.Pick = tt
+  serving-names e s want.Text = tt
+  serving-names e s want.Send = says-names e (services.action s None)
+  serving-names e s want.Spent = tt
+  serving-names e s want.Closed = tt
+
+wanted-kept : (code : Code) (c : Cell) (path : Path) (branch : ℕ) (o : Outcome) → IsOver o → commands.wanted code c path branch o ≡ kept_command code c path branch (kept_of o)
+wanted-kept code c path branch (Gave at vars vs left) over = refl
+wanted-kept code c path branch (Broke reason left) over = refl
+wanted-kept code c path branch (Pauses f fs) over = refl
+wanted-kept code c path branch Short over = absurd over
+
+module _ (code : Code) (n : Naming) (m : Parts) (c : CodeConfiguration) (z : StandsFor code n m c) (d : Drawn) (fresh : IsFresh d m)
+    (p : ℕ) (q : Proc) (there : m.process p ≡ Some q) (i : ℕ) where
+  -- what stands under a naming that grew
+  grown : (n2 : Naming) → Grows n n2 m → (r : Option (Event × CodeConfiguration)) (o : Option Change) → (z2 : StandsFor code n2 m c) → Same code n2 m c z2 d fresh p q there r o → StepsAlike code n d m p q r o
+  grown n2 g None None z2 s = tt
+  grown n2 g (Some r) (Some change) z2 s = (n2, g, s.0, s.1)
+  grown n2 g (Some r) None z2 s = absurd s
+  grown n2 g None (Some change) z2 s = absurd s
+
+  -- the command of a process that runs
+  module _ (n2 : Naming) (g : Grows n n2 m) (z2 : StandsFor code n2 m c) (h : Held) (is : IsCell code n2.end (n2.who p) q.steps h (c.nodes (n2.who p))) (drawn : NamesDrawn n2 d is.path (suc q.steps))
+      (held : (x : ℕ) → IfSome (h.ends x) (IsEnd m.tip)) (k : ℕ) (enough : IsEnough code k (c.nodes (n2.who p))) where
+    abbrev cell : Cell
+    cell = cell_of n2.end h q.steps is.at is.vars is.spent
+
+    over : IsOver (run_of code k cell)
+    over = subst (IsEnough code k) is.runs enough
+
+    command-is : reduce_code code k c (n2.who p) i ≡ reduce_command c (n2.who p) (kept_command code cell is.path i h.kept)
+    command-is =
+        let settles : run_of code k cell ≡ run_of code is.kept.0 cell = settled code k is.kept.0 (frame_at cell.block cell.at cell.vars) [] cell.spent over is.kept.1 in
+        let kept : commands.wanted code cell is.path i (run_of code k cell) ≡ kept_command code cell is.path i h.kept =
+        ap (commands.wanted code cell is.path i) settles ∙ (wanted-kept code cell is.path i (run_of code is.kept.0 cell) is.kept.1 ∙ ap (kept_command code cell is.path i) (sym is.kept.2)) in
+        ap (reduce_state code k c (n2.who p) i) is.runs
+        ∙ (ap (λ w. reduce_command c (n2.who p) (wants code k w (RunsCode cell) i)) is.process ∙ ap (reduce_command c (n2.who p)) kept)
+
+    running : Same code n2 m c z2 d fresh p q there (reduce_code code k c (n2.who p) i) (by_want m.tip d p (w.kept_want code d h i h.kept))
+    running =
+        subst (λ r. Same code n2 m c z2 d fresh p q there r (by_want m.tip d p (w.kept_want code d h i h.kept))) (sym command-is)
+        (by-want code n2 m c z2 d fresh p q there (w.kept_want code d h i h.kept) (kept_command code cell is.path i h.kept)
+        (names-any code n2 m c z2 d fresh p q there (record { path = is.path; named = is.process; drawn = drawn }) (w.kept_want code d h i h.kept))
+        (kept-as code n2 m.tip d (n2.who p) q.steps is.path is.process h is.at is.vars is.spent is.kept held drawn i h.kept))
+
+  run-alike : (h : Held) → q.life ≡ Runs h → IsCell code n.end (n.who p) q.steps h (c.nodes (n.who p)) → (k : ℕ) → IsEnough code k (c.nodes (n.who p)) →
+      StepsAlike code n d m p q (reduce_code code k c (n.who p) i) (by_want m.tip d p (w.kept_want code d h i h.kept))
+  run-alike h life is k enough =
+      let n2 = drawn-naming n m d fresh is.path (suc q.steps) in
+      let g : Grows n n2 m = drawn-grows n m d fresh is.path (suc q.steps) in
+      let z2 : StandsFor code n2 m c = renamed code n n2 m c z g in
+      let same_who : n2.who p ≡ n.who p = g.who p (is-there (m.process p) q there) in
+      let held : LifeWithin (IsEnd m.tip) (Runs h) = subst (LifeWithin (IsEnd m.tip)) life (if-here (λ q. LifeWithin (IsEnd m.tip) q.life) (m.process p) q there (z.wired.held p)) in
+      let is2 : IsCell code n2.end (n2.who p) q.steps h (c.nodes (n2.who p)) = record {
+        path = is.path;
+        process = same_who ∙ is.process;
+        at = is.at;
+        vars = is.vars;
+        spent = is.spent;
+        runs = ap c.nodes same_who
+            ∙ (is.runs ∙ ap (λ (ends : commands.Ends). Some (RunsCode (record { block = h.block; at = is.at; vars = is.vars; ends = ends; steps = q.steps; spent = is.spent }))) (ends-same n.end n2.end (IsEnd m.tip) g.end h.ends held));
+        kept = is.kept;
+      } in
+      subst (λ v. StepsAlike code n d m p q (reduce_code code k c v i) (by_want m.tip d p (w.kept_want code d h i h.kept))) same_who
+      (grown n2 g (reduce_code code k c (n2.who p) i) (by_want m.tip d p (w.kept_want code d h i h.kept)) z2
+      (running n2 g z2 h
+      is2 (drawn-names n m d fresh is.path (suc q.steps)) held k (subst (λ v. IsEnough code k (c.nodes v)) (sym same_who) enough)))
+
+  serve-alike : (e : ℕ) (s : services.Serving) → q.life ≡ Serves e s → IsServing n.end (n.who p) e s (c.nodes (n.who p)) → (k : ℕ) →
+      StepsAlike code n d m p q (reduce_code code k c (n.who p) i) (by_want m.tip d p (w.serving_want e s (services.want s)))
+  serve-alike e s life is k =
+      let held : LifeWithin (IsEnd m.tip) (Serves e s) = subst (LifeWithin (IsEnd m.tip)) life (if-here (λ q. LifeWithin (IsEnd m.tip) q.life) (m.process p) q there (z.wired.held p)) in
+      let command : CodeCommand = command_beside (serving_command (record { end = n.end e; serving = s }) (services.want s)) in
+      let command-is : reduce_code code k c (n.who p) i ≡ reduce_command c (n.who p) command =
+      ap (reduce_state code k c (n.who p) i) is.serves ∙ ap (λ v. reduce_command c (n.who p) (wants code k v (Beside (kinds.Serves (record { end = n.end e; serving = s }))) i)) is.service in
+      grown n (record { who = λ j h. refl; end = λ j h. refl }) (reduce_code code k c (n.who p) i) (by_want m.tip d p (w.serving_want e s (services.want s))) z
+      (subst (λ r. Same code n m c z d fresh p q there r (by_want m.tip d p (w.serving_want e s (services.want s)))) (sym command-is)
+      (by-want code n m c z d fresh p q there (w.serving_want e s (services.want s)) command
+      (serving-names code n m c z d fresh p q there e s (services.want s))
+      (serving-as code n m.tip d (n.who p) q.steps is.number is.service e held s (services.want s))))
+
+  -- a step by number is the machine's
+  pub step-alike : (k : ℕ) → IsEnough code k (c.nodes (n.who p)) → StepsAlike code n d m p q (reduce_code code k c (n.who p) i) (change_of code d m p q i)
+  step-alike k enough = go q.life refl (if-here (λ q. IsNode code n.end (n.who p) q.steps q.life (c.nodes (n.who p))) (m.process p) q there (z.shows.process p))
+    where
+      go : (life : Life) → q.life ≡ life → IsNode code n.end (n.who p) q.steps life (c.nodes (n.who p)) → StepsAlike code n d m p q (reduce_code code k c (n.who p) i) (by_want m.tip d p (wanted code d life i))
+      go Ended life is = subst (λ o. StepsAlike code n d m p q (reduce_state code k c (n.who p) i o) None) (sym is) tt
+      go (Runs h) life is = run-alike h life is k enough
+      go (Serves e s) life is = serve-alike e s life is k
+
+-- there are enough instructions for the expressions of a process
+pub enough-there : (code : Code) (n : Naming) (m : Parts) (c : CodeConfiguration) → StandsFor code n m c → (p : ℕ) (q : Proc) → m.process p ≡ Some q → (k : ℕ) × IsEnough code k (c.nodes (n.who p))
+enough-there code n m c z p q there = go q.life (if-here (λ q. IsNode code n.end (n.who p) q.steps q.life (c.nodes (n.who p))) (m.process p) q there (z.shows.process p))
+  where
+    go : (life : Life) → IsNode code n.end (n.who p) q.steps life (c.nodes (n.who p)) → (k : ℕ) × IsEnough code k (c.nodes (n.who p))
+    go Ended is = (0, subst (IsEnough code 0) (sym is) tt)
+    go (Runs h) is = (is.kept.0, subst (IsEnough code is.kept.0) (sym is.runs) is.kept.1)
+    go (Serves e s) is = (0, subst (IsEnough code 0) (sym is.serves) tt)

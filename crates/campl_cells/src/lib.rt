@@ -12,4 +12,4 @@
 
 mod laws;
 
-pub use laws::{law_frame, law_local};
+pub use laws::{law_frame, law_local, law_step};
