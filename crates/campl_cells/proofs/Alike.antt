@@ -1,5 +1,5 @@
 -- When a command of the machine is what a part wants.
-use Rattle.std.proofs.Common.{◌≡◌, ◌⊎◌, inl, inr, ℕ, suc, Bool, true, false, List, [], ◌∷◌, Option, Some, None, IsSome, IfSome, option_map, refl, sym, ap, subst, ◌∙◌}
+use Rattle.std.proofs.Common.{◌≡◌, ◌⊎◌, inr, ℕ, suc, Bool, List, [], ◌∷◌, Option, Some, None, IsSome, IfSome, option_map, refl, sym, ap, subst}
 use Rattle.campl_machine.specs.Names.{Path, End, Who, Process}
 use Rattle.campl_machine.specs.Machine.{Moves, Looks, Links, Stands, Breaks}
 use Rattle.campl_meaning.specs.States as k

@@ -1,12 +1,12 @@
 -- A channel that is born has two new ends, whose names are new.
-use Rattle.std.proofs.Common.{◌≡◌, ◌≢◌, inl, inr, ℕ, List, [], ◌∷◌, Option, Some, None, IsSome, map, option_map, refl, sym, ap, subst, ◌∙◌}
+use Rattle.std.proofs.Common.{◌≡◌, ◌≢◌, ℕ, List, Option, Some, None, IsSome, map, option_map, refl, sym, ap, subst, ◌∙◌}
 use Rattle.std.specs.List.{AllByRecursion}
 use Rattle.campl_machine.specs.Names.{End}
 use Rattle.campl_meaning.specs.States.{Message}
-use Rattle.campl_cells.specs.Parts.{Mail, Tip, put, or_bare, or_else, owner}
+use Rattle.campl_cells.specs.Parts.{Mail, Tip, put, or_bare, or_else}
 use Rattle.campl_cells.specs.Steps.{joined_to}
 use Rattle.campl_cells.specs.Stands.{named_mail, MailWithin, IsEnd}
-use Rattle.campl_cells.proofs.Puts.{same, put-both, put-here, put-else, all-wider, not-free}
+use Rattle.campl_cells.proofs.Puts.{put-both, put-here, put-else, all-wider, not-free}
 use Rattle.campl_cells.proofs.Tips.{TipsStand, peer-there, mail-wider, ne}
 
 module _ (name : ℕ → End) (tip : ℕ → Option Tip) (partner partner2 : End → Option End) (owed : End → List Message) (z : TipsStand name tip partner owed)

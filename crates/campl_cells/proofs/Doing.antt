@@ -1,5 +1,5 @@
 -- What a process wants is its cell's command.
-use Rattle.std.proofs.Common.{◌≡◌, ◌⊎◌, inl, inr, ℕ, suc, ◌+◌, Bool, true, false, ◌&&◌, List, [], ◌∷◌, ◌++◌, Option, Some, None, IsSome, IfSome, is_some, option_map, eqb, slice_get, slice_set, length, if◌then◌else◌, refl, sym, ap, ap₂, subst, ◌∙◌, arith}
+use Rattle.std.proofs.Common.{◌≡◌, inl, inr, ℕ, suc, ◌+◌, Bool, true, false, ◌&&◌, List, [], ◌∷◌, ◌++◌, Option, Some, None, IsSome, IfSome, is_some, option_map, eqb, slice_get, slice_set, if◌then◌else◌, refl, sym, ap, ap₂, subst, ◌∙◌, arith}
 use Rattle.std.proofs.Math.Path.{fun_ext}
 use Rattle.campl_tree.specs.declared.service.Side.{Side}
 use Rattle.campl_tree.specs.declared.service.Side.TheVariants.{Input, Output}
@@ -14,11 +14,11 @@ use Rattle.campl_meaning.specs.Wants.{half_on}
 use Rattle.campl_code.specs.Instructions.{Instr, Block, Code, blocks}
 use Rattle.campl_code.specs.Instructions as i
 use Rattle.campl_code.specs.Decisions.{chosen}
-use Rattle.campl_code.specs.Frames.{frame_of, set_from}
+use Rattle.campl_code.specs.Frames.{set_from}
 use Rattle.campl_code_bodies.specs.Commands as c
 use Rattle.campl_code_bodies.specs.Commands.{Cell, CodeState, RunsCode, CodeCommand, channel_at}
 use Rattle.campl_code_bodies.specs.Kept.{Kept, Values, AtCall, Broken, IsKept, kept_command}
-use Rattle.campl_cells.specs.Parts.{Mail, Ends, Held, Life, Runs, Tip, near, far, written}
+use Rattle.campl_cells.specs.Parts.{Mail, Ends, Held, Tip, near, far, written}
 use Rattle.campl_cells.specs.Wants as w
 use Rattle.campl_cells.specs.Wants.{Drawn, Start, Next, Begins, Spends, Want, set_end, end_at, start_at, onward, are_set, end_on}
 use Rattle.campl_cells.specs.Steps.{borne}

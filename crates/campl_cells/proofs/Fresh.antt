@@ -1,11 +1,11 @@
 -- What a step bears has numbers that aren't in use, and the names that the machine gives it are new.
-use Rattle.std.proofs.Common.{◌≡◌, ◌≢◌, ◌≤◌, ◌⊎◌, inl, inr, ℕ, suc, ◌+◌, ◌*◌, List, [], ◌∷◌, ◌++◌, Option, Some, None, IsSome, refl, sym, ap, ap₂, subst, ◌∙◌, arith}
+use Rattle.std.proofs.Common.{◌≡◌, ◌≢◌, ◌≤◌, ◌⊎◌, inl, inr, ℕ, suc, List, [], ◌∷◌, ◌++◌, Option, Some, None, IsSome, refl, sym, ap, ap₂, subst, ◌∙◌, arith}
 use Rattle.std.specs.Option.{IsSomeAnd}
-use Rattle.campl_machine.specs.Names.{Birth, Path, End, First, Second, Who, Process}
+use Rattle.campl_machine.specs.Names.{Birth, Path, End, First, Second, Process}
 use Rattle.campl_machine.specs.Machine.{Lies}
 use Rattle.campl_code.specs.Instructions.{Code}
 use Rattle.campl_code_bodies.specs.Running.{CodeConfiguration}
-use Rattle.campl_cells.specs.Parts.{Proc, Tip, Parts, near, far, put, written}
+use Rattle.campl_cells.specs.Parts.{Proc, Parts, near, far, put}
 use Rattle.campl_cells.specs.Wants.{Drawn}
 use Rattle.campl_cells.specs.Steps.{borne}
 use Rattle.campl_cells.specs.Stands.{Naming, StandsFor, Grows, IsFresh, IsBorn, birth}
@@ -63,7 +63,7 @@ module _ (code : Code) (n : Naming) (m : Parts) (c : CodeConfiguration) (z : Sta
   new-end x xb xs k hk e =
       let b = z.named.bearers k hk in
       let same_bearer : b.number ≡ p = z.named.processes b.number p (and-there (λ r. (n.end k).step ≤ r.steps) (m.process b.number) b.made) p-there
-          (b.named ∙ (ap Process (ap (λ (y : End). y.bearer) e ∙ xb) ∙ sym named)) in
+      (b.named ∙ (ap Process (ap (λ (y : End). y.bearer) e ∙ xb) ∙ sym named)) in
       not-yet b.number (n.end k).step same_bearer b.made (ap (λ (y : End). y.step) e ∙ xs)
 
 -- Numbers

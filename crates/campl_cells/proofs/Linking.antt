@@ -1,12 +1,12 @@
 -- An identity: its two ends are given up, and their peers become peers.
-use Rattle.std.proofs.Common.{◌≡◌, ◌≢◌, inl, inr, ℕ, List, [], ◌∷◌, ◌++◌, Option, Some, None, IsSome, map, option_map, refl, sym, ap, ap₂, subst, ◌∙◌}
+use Rattle.std.proofs.Common.{◌≡◌, ◌≢◌, ℕ, List, [], ◌∷◌, ◌++◌, Option, Some, None, IsSome, map, option_map, refl, sym, ap, ap₂, subst, ◌∙◌}
 use Rattle.std.specs.List.{AllByRecursion}
 use Rattle.std.proofs.lemmas.List.{map-append}
 use Rattle.campl_machine.specs.Names.{End, same_end}
 use Rattle.campl_machine.specs.Machine.{update, rewired, joined}
 use Rattle.campl_meaning.specs.States.{Message}
-use Rattle.campl_cells.specs.Parts.{Mail, Tip, put, written, bare, or_bare, or_else, owner}
-use Rattle.campl_cells.specs.Steps.{meets, tips_joined}
+use Rattle.campl_cells.specs.Parts.{Mail, Tip, put, bare, or_bare, or_else, owner}
+use Rattle.campl_cells.specs.Steps.{meets}
 use Rattle.campl_cells.specs.Stands.{named_mail, MailWithin, IsEnd}
 use Rattle.campl_cells.proofs.Puts.{put-both, put-here, put-else, all-append, all-wider}
 use Rattle.campl_cells.proofs.Tips.{TipsStand, owner-back, owner-there, peer-there, mail-wider, ne, end-here, end-else}

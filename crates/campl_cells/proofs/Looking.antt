@@ -1,6 +1,6 @@
 -- A step that looked at a message, and an identity.
-use Rattle.std.proofs.Common.{◌≡◌, ◌≢◌, ℕ, suc, Bool, true, false, List, [], ◌∷◌, Option, Some, None, IsSome, IfSome, refl, sym, ap, subst, ◌∙◌}
-use Rattle.campl_machine.specs.Names.{End, Who, same_end, same_who}
+use Rattle.std.proofs.Common.{◌≡◌, ◌≢◌, ℕ, suc, Bool, true, false, List, [], ◌∷◌, Option, Some, None, IsSome}
+use Rattle.campl_machine.specs.Names.{End, same_end, same_who}
 use Rattle.campl_machine.specs.Machine as machine
 use Rattle.campl_machine.specs.Machine.{update, rewired, joined, taken}
 use Rattle.campl_meaning.specs.States.{Message, Kind}
@@ -14,7 +14,7 @@ use Rattle.campl_cells.specs.Stands.{Naming, StandsFor, IsFresh, IsNode, LifeWit
 use Rattle.campl_cells.proofs.Tips.{TipsStand}
 use Rattle.campl_cells.proofs.Receiving.{taking, taking-keeps, taking-before}
 use Rattle.campl_cells.proofs.Linking.{linking, linking-keeps, linking-before}
-use Rattle.campl_cells.proofs.Nodes.{Bearers, borne-grown, on-grown, on-births}
+use Rattle.campl_cells.proofs.Nodes.{borne-grown, on-grown, on-births}
 use Rattle.campl_cells.proofs.Together.{tips-of, together}
 use Rattle.campl_cells.proofs.Alike.{GoesAs, gone-as}
 use Rattle.campl_cells.proofs.Moving.{node-on, held-on, life-wider}

@@ -1,23 +1,22 @@
 -- A step that waits for nothing: what is born, what is sent, and how the process goes on.
-use Rattle.std.proofs.Common.{◌≡◌, ◌≢◌, ◌≤◌, ◌⊎◌, inl, inr, ℕ, suc, List, [], ◌∷◌, ◌++◌, Option, Some, None, IsSome, IfSome, map, option_map, refl, sym, ap, ap₂, subst, ◌∙◌, if◌then◌else◌, arith, le_refl}
-use Rattle.std.specs.Option.{IsSomeAnd}
-use Rattle.campl_machine.specs.Names.{Path, Half, First, Second, End, Who, Process, same_end, same_who}
+use Rattle.std.proofs.Common.{◌≡◌, ◌≢◌, ◌⊎◌, inl, inr, ℕ, suc, List, [], ◌∷◌, ◌++◌, Option, Some, None, IsSome, IfSome, refl, sym, ap, ap₂, subst, ◌∙◌, if◌then◌else◌, arith}
+use Rattle.campl_machine.specs.Names.{Path, First, Second, End, Who, Process, same_end, same_who}
 use Rattle.campl_machine.specs.Machine as machine
 use Rattle.campl_machine.specs.Machine.{Lies, update, both_ways, alive}
 use Rattle.campl_meaning.specs.States.{Message, Kind}
 use Rattle.campl_code.specs.Instructions.{Code}
 use Rattle.campl_code_bodies.specs.Commands.{CodeState}
 use Rattle.campl_code_bodies.specs.Running.{CodeConfiguration}
-use Rattle.campl_cells.specs.Parts.{Mail, Held, Life, Ended, Runs, Serves, Proc, Tip, Parts, near, far, put, written, or_bare, or_else, owner}
-use Rattle.campl_cells.specs.Wants.{Drawn, Start, Next, Begins, Move}
+use Rattle.campl_cells.specs.Parts.{Mail, Life, Ended, Runs, Serves, Proc, Tip, Parts, near, far, put, written, or_bare, or_else, owner}
+use Rattle.campl_cells.specs.Wants.{Drawn, Start, Move}
 use Rattle.campl_cells.specs.Steps.{borne, sent, arrives, moved, goes_on, newborn, peopled, after, IsLifeOf, IsChildOf}
-use Rattle.campl_cells.specs.Stands.{Naming, StandsFor, IsFresh, IsBorneBy, IsNode, LifeWithin, MailWithin, IsEnd, named_mail, birth}
-use Rattle.campl_cells.proofs.Puts.{put-both, put-here, put-else, put-keeps, if-then, is-there, not-free, written-keeps, written-lies, written-from, written-else}
+use Rattle.campl_cells.specs.Stands.{Naming, StandsFor, IsFresh, IsBorneBy, IsNode, LifeWithin, IsEnd}
+use Rattle.campl_cells.proofs.Puts.{put-both, put-here, put-else, put-keeps, if-then, is-there, not-free, written-keeps, written-from, written-else}
 use Rattle.campl_cells.proofs.Tips.{TipsStand, end-here, end-else, owner-there, ne}
 use Rattle.campl_cells.proofs.Channels.{bearing}
 use Rattle.campl_cells.proofs.Sending.{sending}
-use Rattle.campl_cells.proofs.Nodes.{NodesStand, node-written, who-here, who-else, HasMade, Grown, Births, Bearers, borne-grown, on-grown, on-made, on-births, child-grown, child-births}
-use Rattle.campl_cells.proofs.Together.{Holding, tips-of, nodes-of, together}
+use Rattle.campl_cells.proofs.Nodes.{NodesStand, node-written, who-here, who-else, HasMade, Grown, Bearers, borne-grown, on-grown, on-made, on-births, child-grown, child-births}
+use Rattle.campl_cells.proofs.Together.{tips-of, nodes-of, together}
 use Rattle.campl_cells.proofs.Alike.{GoesAs, ChildAs, FewChannels, SendWithin, named_send, pairs}
 use Rattle.campl_cells.proofs.Doing.{NamesDrawn, wider}
 use Rattle.campl_cells.proofs.Fresh.{IsDrawn, new-child, new-end, near-far, near-near, far-far, far-near, lies-drawn, drawn-free, drawn-named}
@@ -53,7 +52,6 @@ halves-apart x y a b e = let f : First ≡ Second = sym a ∙ (ap (λ (x : End).
 
 module _ (code : Code) (n : Naming) (m : Parts) (c : CodeConfiguration) (z : StandsFor code n m c) (d : Drawn) (fresh : IsFresh d m)
     (p : ℕ) (q : Proc) (there : m.process p ≡ Some q) where
-
   -- Channels
 
   module _ (b : BirthNames n d p q.steps) where

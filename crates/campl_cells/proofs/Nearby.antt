@@ -3,7 +3,7 @@ use Rattle.std.proofs.Common.{◌≡◌, ◌≢◌, ◌⊎◌, inl, inr, ℕ, Bo
 use Rattle.campl_machine.specs.Machine.{Lies}
 use Rattle.campl_meaning.specs.States.{Kind}
 use Rattle.campl_code.specs.Instructions.{Code}
-use Rattle.campl_cells.specs.Parts.{Mail, Life, Proc, Tip, Parts, near, far, written, or_bare, or_else, owner}
+use Rattle.campl_cells.specs.Parts.{Mail, Life, Proc, Tip, Parts, or_bare, or_else}
 use Rattle.campl_cells.specs.Wants as w
 use Rattle.campl_cells.specs.Wants.{Drawn, Next, Want, wanted}
 use Rattle.campl_cells.specs.Steps.{Change, borne, sent, moved, looked, looks_in, links_at, linked, peopled, by_want, change_of, after}

@@ -1,15 +1,15 @@
 -- The processes by number and the machine's nodes: what stands for what, and whose names come from births.
-use Rattle.std.proofs.Common.{◌≡◌, ◌≢◌, ◌≤◌, ◌⊎◌, inl, inr, ℕ, suc, Bool, true, false, List, [], ◌∷◌, ◌++◌, Option, Some, None, IsSome, IfSome, refl, sym, ap, ap₂, subst, ◌∙◌, if◌then◌else◌, arith, le_refl}
+use Rattle.std.proofs.Common.{◌≡◌, ◌≢◌, ◌≤◌, ◌⊎◌, inl, inr, ℕ, suc, List, [], ◌∷◌, ◌++◌, Option, Some, None, IsSome, IfSome, refl, sym, ap, subst, ◌∙◌, if◌then◌else◌, arith, le_refl}
 use Rattle.std.specs.Option.{IsSomeAnd}
-use Rattle.campl_machine.specs.Names.{Birth, Path, End, Who, Process, Service, same_who}
+use Rattle.campl_machine.specs.Names.{Path, End, Who, Process, same_who}
 use Rattle.campl_machine.specs.Machine.{update}
 use Rattle.campl_machine.proofs.Same.{same_who-is, same_who-refl}
 use Rattle.campl_code.specs.Instructions.{Code}
 use Rattle.campl_code_bodies.specs.Commands.{CodeState}
 use Rattle.campl_cells.specs.Parts.{Life, Proc, Tip, put}
-use Rattle.campl_cells.specs.Steps.{goes_on, newborn}
+use Rattle.campl_cells.specs.Steps.{goes_on}
 use Rattle.campl_cells.specs.Stands.{Naming, IsNode, IsBorn, IsBorneBy, birth}
-use Rattle.campl_cells.proofs.Puts.{split, put-both, put-here, put-else, if-then, if-here, and-then, is-there, not-free}
+use Rattle.campl_cells.proofs.Puts.{split, put-both, put-here, if-then, if-here, is-there}
 
 pub who-here : {V : Type 0} (e f : Who) (x : V) (es : List (Who × V)) (F : Who → V) → e ≡ f → update same_who ((e, x) ∷ es) F f ≡ x
 who-here e f x es F q = ap (λ b. if b then x else update same_who es F f) (ap (same_who e) (sym q) ∙ same_who-refl e)

@@ -1,5 +1,5 @@
 -- A message that is taken off an end was the first that the end's peer owes.
-use Rattle.std.proofs.Common.{◌≡◌, ◌≢◌, ℕ, true, List, [], ◌∷◌, Option, Some, None, IsSome, map, option_map, refl, sym, ap, subst, ◌∙◌, if◌then◌else◌}
+use Rattle.std.proofs.Common.{◌≡◌, ◌≢◌, ℕ, true, List, ◌∷◌, Option, Some, IsSome, map, option_map, refl, sym, ap, subst, ◌∙◌, if◌then◌else◌}
 use Rattle.std.specs.List.{AllByRecursion}
 use Rattle.campl_machine.specs.Names.{End, same_end}
 use Rattle.campl_machine.specs.Machine.{taken, rest_of}

@@ -1,5 +1,5 @@
 -- Numbers that aren't in use may be named otherwise.
-use Rattle.std.proofs.Common.{◌≡◌, ◌≢◌, ◌≤◌, ◌⊎◌, inl, inr, ℕ, suc, List, [], ◌∷◌, ◌++◌, Option, Some, None, IsSome, IfSome, map, option_map, refl, sym, ap, ap₂, subst, ◌∙◌}
+use Rattle.std.proofs.Common.{◌≡◌, ◌≤◌, ◌⊎◌, inl, inr, ℕ, List, [], ◌∷◌, Option, Some, None, IsSome, IfSome, map, option_map, refl, sym, ap, ap₂, subst, ◌∙◌}
 use Rattle.std.proofs.Math.Path.{fun_ext}
 use Rattle.std.specs.List.{AllByRecursion}
 use Rattle.campl_machine.specs.Names.{Path, End, Who, Process}
@@ -10,8 +10,8 @@ use Rattle.campl_code.specs.Instructions.{Code}
 use Rattle.campl_code_bodies.specs.Commands as k
 use Rattle.campl_code_bodies.specs.Commands.{CodeState, RunsCode, Beside}
 use Rattle.campl_code_bodies.specs.Running.{CodeConfiguration}
-use Rattle.campl_cells.specs.Parts.{Mail, Ends, Held, Life, Ended, Runs, Serves, Proc, Tip, Parts, or_bare, or_else}
-use Rattle.campl_cells.specs.Stands.{Naming, Shows, Named, Wired, StandsFor, Grows, IsNode, IsBorn, LifeWithin, MailWithin, IsEnd, named_mail, named_ends}
+use Rattle.campl_cells.specs.Parts.{Mail, Ends, Life, Ended, Runs, Serves, Proc, Tip, Parts, or_bare, or_else}
+use Rattle.campl_cells.specs.Stands.{Naming, StandsFor, Grows, IsNode, IsBorn, LifeWithin, MailWithin, IsEnd, named_mail, named_ends}
 use Rattle.campl_cells.proofs.Puts.{if-then, if-here, and-there, is-there}
 use Rattle.campl_cells.proofs.Tips.{peer-there}
 use Rattle.campl_cells.proofs.Nodes.{HasMade}

@@ -1,5 +1,5 @@
 -- A message that is sent lies behind the others at the end whose owner sent it.
-use Rattle.std.proofs.Common.{◌≡◌, ◌≢◌, ℕ, List, [], ◌∷◌, ◌++◌, Option, Some, None, IsSome, map, option_map, refl, sym, ap, subst, ◌∙◌, if◌then◌else◌}
+use Rattle.std.proofs.Common.{◌≡◌, ◌≢◌, ℕ, List, [], ◌∷◌, ◌++◌, Option, Some, IsSome, map, option_map, refl, sym, ap, ◌∙◌, if◌then◌else◌}
 use Rattle.std.specs.List.{AllByRecursion}
 use Rattle.std.proofs.lemmas.List.{map-append}
 use Rattle.campl_machine.specs.Names.{End, same_end}
@@ -10,7 +10,7 @@ use Rattle.campl_meaning.specs.States.{Message}
 use Rattle.campl_cells.specs.Parts.{Mail, Tip, put, or_bare, or_else, owner}
 use Rattle.campl_cells.specs.Steps.{arrives}
 use Rattle.campl_cells.specs.Stands.{named_mail, MailWithin, IsEnd}
-use Rattle.campl_cells.proofs.Puts.{put-both, put-here, all-append, all-wider}
+use Rattle.campl_cells.proofs.Puts.{put-both, all-append, all-wider}
 use Rattle.campl_cells.proofs.Tips.{TipsStand, owner-back, owner-there, mail-wider}
 
 sent-here : (x : End) (v : Message) (F : End → List Message) (k : End) → x ≡ k → sent (Some (x, v)) F k ≡ F k ++ v ∷ []

@@ -1,6 +1,6 @@
 -- What a service wants is the machine's command.
-use Rattle.std.proofs.Common.{◌≡◌, ◌⊎◌, inl, inr, ℕ, suc, true, List, [], Option, Some, None, IsSome, option_map, refl, sym, ap, subst, ◌∙◌}
-use Rattle.campl_machine.specs.Names.{End, Who, Service}
+use Rattle.std.proofs.Common.{◌≡◌, inl, ℕ, suc, true, [], Option, Some, None, IsSome, option_map, refl, sym, subst}
+use Rattle.campl_machine.specs.Names.{Who, Service}
 use Rattle.campl_machine.specs.Machine.{Moves}
 use Rattle.campl_value.specs.declared.message.Message.{Message as Said}
 use Rattle.campl_value.specs.declared.message.Message.TheVariants.{Word, Pick, Ends as EndPair}
@@ -14,8 +14,8 @@ use Rattle.campl_meaning.specs.States as k
 use Rattle.campl_meaning.specs.States.{Message, Attending}
 use Rattle.campl_meaning.specs.Wants as t
 use Rattle.campl_code.specs.Instructions.{Code}
-use Rattle.campl_code_bodies.specs.Commands.{CodeState, Beside}
-use Rattle.campl_code_bodies.specs.Running.{beside, command_beside, act_beside}
+use Rattle.campl_code_bodies.specs.Commands.{Beside}
+use Rattle.campl_code_bodies.specs.Running.{beside, command_beside}
 use Rattle.campl_cells.specs.Parts.{Mail, Tip}
 use Rattle.campl_cells.specs.Wants as w
 use Rattle.campl_cells.specs.Wants.{Drawn, Next, Attends}

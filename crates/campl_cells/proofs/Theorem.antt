@@ -1,9 +1,8 @@
 -- A step by number is the machine's.
-use Rattle.std.proofs.Common.{◌≡◌, ◌≢◌, ◌⊎◌, inl, inr, ℕ, suc, Bool, true, false, List, [], ◌∷◌, Option, Some, None, IsSome, IfSome, map, option_map, eqb, if◌then◌else◌, refl, sym, ap, ap₂, subst, ◌∙◌, eq-eqb, ne_eqb}
+use Rattle.std.proofs.Common.{◌≡◌, ◌⊎◌, inl, inr, ℕ, suc, Bool, true, false, List, [], ◌∷◌, Option, Some, None, IsSome, IfSome, map, option_map, if◌then◌else◌, refl, sym, ap, subst, ◌∙◌, eq-eqb, ne_eqb}
 use Rattle.std.specs.List.{AllByRecursion}
-use Rattle.campl_machine.specs.Names.{Path, End, Who, Process, Service, same_end}
-use Rattle.campl_machine.specs.Machine as machine
-use Rattle.campl_machine.specs.Machine.{Moves, Looks, Links, Stands, Breaks, performs, at, goes, looks_at, links_at}
+use Rattle.campl_machine.specs.Names.{Path, Who, same_end}
+use Rattle.campl_machine.specs.Machine.{Looks, Links, Stands, Breaks, performs, at, goes, looks_at, links_at}
 use Rattle.campl_machine.proofs.Same.{same_end-refl}
 use Rattle.campl_machine.proofs.Ends.{apart}
 use Rattle.campl_service.specs.declared.phase.Want as phase
@@ -19,19 +18,19 @@ use Rattle.campl_code.specs.Runs.{Outcome, Gave, Broke, Pauses, Short, IsOver}
 use Rattle.campl_code.proofs.Resume.{settled}
 use Rattle.campl_code_bodies.specs.Commands as commands
 use Rattle.campl_code_bodies.specs.Commands.{Cell, CodeState, RunsCode, Beside, CodeCommand, run_of}
-use Rattle.campl_code_bodies.specs.Kept.{kept_of, IsKept, kept_command}
-use Rattle.campl_code_bodies.specs.Running.{CodeConfiguration, IsEnough, wants, oldest, oldest_in, message_of, children_of, event_of, command_beside, reduce_command, reduce_state, reduce_code}
-use Rattle.campl_cells.specs.Parts.{Mail, Held, Life, Ended, Runs, Serves, Proc, Tip, Parts, near, far, or_bare, or_else}
+use Rattle.campl_code_bodies.specs.Kept.{kept_of, kept_command}
+use Rattle.campl_code_bodies.specs.Running.{CodeConfiguration, IsEnough, wants, oldest, oldest_in, event_of, command_beside, reduce_command, reduce_state, reduce_code}
+use Rattle.campl_cells.specs.Parts.{Mail, Held, Life, Ended, Runs, Serves, Proc, Parts, or_bare, or_else}
 use Rattle.campl_cells.specs.Wants as w
 use Rattle.campl_cells.specs.Wants.{Drawn, Start, Next, Move, Want, Rests, wanted}
 use Rattle.campl_cells.specs.Steps as steps
 use Rattle.campl_cells.specs.Steps.{Entry, Change, moved, looked, looks_in, linked, by_want, change_of, after, first_of, second_of, child_number, IsLifeOf, IsChildOf}
-use Rattle.campl_cells.specs.Stands.{Naming, StandsFor, Grows, IsFresh, IsNode, IsCell, IsServing, IsEnd, LifeWithin, MailWithin, StepsAlike, cell_of, named_mail, named_ends, named_child, named_channels, named_entry}
+use Rattle.campl_cells.specs.Stands.{Naming, StandsFor, Grows, IsFresh, IsNode, IsCell, IsServing, IsEnd, LifeWithin, MailWithin, StepsAlike, cell_of, named_mail, named_child, named_channels, named_entry}
 use Rattle.campl_cells.proofs.Puts.{same, if-here, is-there}
-use Rattle.campl_cells.proofs.Tips.{TipsStand, peer-there}
+use Rattle.campl_cells.proofs.Tips.{peer-there}
 use Rattle.campl_cells.proofs.Together.{tips-of}
 use Rattle.campl_cells.proofs.Renamed.{renamed, ends-same}
-use Rattle.campl_cells.proofs.Alike.{GoesAs, ChildAs, FitsAs, FewChannels, MovesAs, LooksAs, LinksAs, WantAs, named_send, pairs}
+use Rattle.campl_cells.proofs.Alike.{ChildAs, FitsAs, FewChannels, MovesAs, WantAs, named_send, pairs}
 use Rattle.campl_cells.proofs.Doing.{NamesDrawn, kept-as}
 use Rattle.campl_cells.proofs.Serving.{serving-as}
 use Rattle.campl_cells.proofs.Fresh.{drawn-naming, drawn-names, drawn-grows}

@@ -1,13 +1,13 @@
 -- What stands, taken apart and put together.
-use Rattle.std.proofs.Common.{◌≡◌, ◌≢◌, ◌⊎◌, inl, inr, ℕ, List, [], ◌∷◌, ◌++◌, Option, Some, None, IsSome, IfSome, map, option_map, refl, sym, ap, subst, ◌∙◌}
+use Rattle.std.proofs.Common.{◌≡◌, ℕ, List, [], Option, Some, None, IsSome, IfSome, map, option_map, refl}
 use Rattle.std.specs.List.{AllByRecursion}
 use Rattle.campl_machine.specs.Names.{End, Who}
 use Rattle.campl_meaning.specs.States.{Message}
 use Rattle.campl_code.specs.Instructions.{Code}
 use Rattle.campl_code_bodies.specs.Commands.{CodeState}
 use Rattle.campl_code_bodies.specs.Running.{CodeConfiguration}
-use Rattle.campl_cells.specs.Parts.{Life, Proc, Tip, Parts, or_bare, or_else}
-use Rattle.campl_cells.specs.Stands.{Naming, Shows, Named, Wired, StandsFor, LifeWithin, MailWithin, IsEnd, named_mail}
+use Rattle.campl_cells.specs.Parts.{Proc, Tip, Parts, or_bare, or_else}
+use Rattle.campl_cells.specs.Stands.{Naming, StandsFor, LifeWithin, MailWithin, IsEnd, named_mail}
 use Rattle.campl_cells.proofs.Tips.{TipsStand}
 use Rattle.campl_cells.proofs.Nodes.{NodesStand, Births, Bearers}
 

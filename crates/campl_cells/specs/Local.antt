@@ -1,9 +1,8 @@
 -- Which parts a step reads and changes.
 use Rattle.std.specs.Prelude.{◌≡◌, ◌≢◌, ◌⊎◌, ℕ, List, [], ◌∷◌, Option, Some, None}
 use Rattle.campl_code.specs.Instructions.{Code}
-use Rattle.campl_cells.specs.Parts.{Mail, Life, Proc, Tip, Parts, near, far, owner}
+use Rattle.campl_cells.specs.Parts.{Mail, Proc, Tip, Parts, near, far, owner}
 use Rattle.campl_cells.specs.Wants.{Drawn, Want, Rests, Moves, Looks, Links, wanted}
-use Rattle.campl_cells.specs.Steps.{Change, change_of, after}
 
 -- the end of a message, and the one at which it lies
 abbrev pub IsOnTheWay : (ℕ → Option Tip) → Option (ℕ × Mail) → ℕ → Type 0

@@ -8,7 +8,7 @@ use Rattle.campl_code.specs.Frames.{frame_at}
 use Rattle.campl_code.specs.Runs.{IsOver, run}
 use Rattle.campl_code_bodies.specs.Commands.{Cell}
 use Rattle.campl_code_bodies.specs.Kept.{Kept, kept_of, IsKept, spent_more}
-use Rattle.campl_cells.specs.Parts.{Mail, Held, Life, Ended, Runs, Serves, Proc, Tip, Parts, near, far, put, written, bare, or_bare, owner}
+use Rattle.campl_cells.specs.Parts.{Mail, Life, Ended, Runs, Serves, Proc, Tip, Parts, near, far, written, bare, or_bare, owner}
 use Rattle.campl_cells.specs.Wants.{Drawn, Start, Next, Gone, Spends, Begins, Attends, Move, Want, Rests, Moves, Looks, Links, wanted}
 
 -- what a step did, by numbers: the message that was sent or taken off, the child and the channels that were born
