@@ -1,0 +1,5 @@
+pub mod Parts
+pub mod Wants
+pub mod Steps
+pub mod Stands
+pub mod Local

@@ -1,0 +1,32 @@
+//! Laws over the definitions, functions with nothing to do, whose contracts they are.
+ghost use Rattle.std.specs.Prelude.{ℕ, ◌≡◌, Some, Option};
+ghost use Rattle.campl_code.specs.Instructions.{Code};
+ghost use Rattle.campl_code_bodies.specs.Running.{CodeConfiguration, IsEnough, reduce_code};
+ghost use Rattle.campl_cells.specs.Parts.{Life, Parts, Proc};
+ghost use Rattle.campl_cells.specs.Wants.{Drawn};
+ghost use Rattle.campl_cells.specs.Steps.{Change, after, change_of};
+ghost use Rattle.campl_cells.specs.Stands.{IsFresh, Naming, StandsFor, StepsAlike};
+ghost use Rattle.campl_cells.specs.Local.{ElseStays, SameInHand};
+
+/// Where parts stand for a configuration, the instructions for each process's expressions are enough from some number on; and
+/// with enough of them a process or service, by its number, has a next step exactly where the machine has a reduction of its
+/// name, as the same branch of a race. The event is the entry under the machine's names, what is born has the drawn numbers,
+/// and all parts to which the step leads stand for the configuration behind the reduction, while the names in use stay.
+pub fn law_step()
+    ensures enough { (code : Code) (n : Naming) (m : Parts) (c : CodeConfiguration) → StandsFor code n m c → (p : ℕ) (q : Proc) → m.process p ≡ Some q
+        → (k : ℕ) × IsEnough code k (c.nodes (n.who p)) }
+    ensures step { (code : Code) (n : Naming) (m : Parts) (c : CodeConfiguration) → StandsFor code n m c → (d : Drawn) → IsFresh d m
+        → (p : ℕ) (q : Proc) → m.process p ≡ Some q → (i k : ℕ) → IsEnough code k (c.nodes (n.who p))
+        → StepsAlike code n d m p q (reduce_code code k c (n.who p) i) (change_of code d m p q i) }
+{}
+
+/// A step reads its process and the ends in hand, at most four: where these are the same, it changes the same.
+pub fn law_local()
+    ensures { (code : Code) (d : Drawn) (m m2 : Parts) (p : ℕ) (q : Proc) (i : ℕ) → SameInHand code d m m2 p q i → change_of code d m2 p q i ≡ change_of code d m p q i }
+{}
+
+/// It leaves all parts but its process, the ends in hand and what is born.
+pub fn law_frame()
+    ensures { (code : Code) (d : Drawn) (m : Parts) (p : ℕ) (q : Proc) (i : ℕ) (change : Change) (life : Life) (child : Option Life)
+        → change_of code d m p q i ≡ Some change → ElseStays code d m p q i (after d m p q change life child) }
+{}
