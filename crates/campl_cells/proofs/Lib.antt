@@ -15,3 +15,5 @@ pub mod Moving
 pub mod Nearby
 pub mod Looking
 pub mod Theorem
+pub mod Starting
+pub mod StartNodes

@@ -15,7 +15,7 @@ lies-append [] fs k l = inr l
 lies-append (e ∷ es) fs k (inl q) = inl (inl q)
 lies-append (e ∷ es) fs k (inr l) = elim (lies-append es fs k l) [ inl a ↦ inl (inr a) | inr b ↦ inr b ]
 
-lies-borne : (cs : List ℕ) (k : ℕ) → Lies (borne cs) k → IsEndOf cs k
+pub lies-borne : (cs : List ℕ) (k : ℕ) → Lies (borne cs) k → IsEndOf cs k
 lies-borne [] k l = l
 lies-borne (c ∷ cs) k l = elim (lies-append (borne cs) _ k l) [
   | inl a ↦ inr (inr (lies-borne cs k a))

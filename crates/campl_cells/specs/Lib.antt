@@ -3,3 +3,4 @@ pub mod Wants
 pub mod Steps
 pub mod Stands
 pub mod Local
+pub mod Starts

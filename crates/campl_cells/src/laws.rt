@@ -1,11 +1,16 @@
 //! Laws over the definitions, functions with nothing to do, whose contracts they are.
-ghost use Rattle.std.specs.Prelude.{ℕ, ◌≡◌, Some, Option};
-ghost use Rattle.campl_code.specs.Instructions.{Code};
-ghost use Rattle.campl_code_bodies.specs.Running.{CodeConfiguration, IsEnough, reduce_code};
+ghost use Rattle.std.specs.Prelude.{ℕ, ◌+◌, ◌≡◌, List, [], Some, Option, length};
+ghost use Rattle.campl_types.specs.World.{World};
+ghost use Rattle.campl_service.specs.Scripts.{Lines};
+ghost use Rattle.campl_code.specs.Instructions.{Block, Code};
+ghost use Rattle.campl_code.specs.Frames.{frame_of};
+ghost use Rattle.campl_code_bodies.specs.Kept.{Kept};
+ghost use Rattle.campl_code_bodies.specs.Running.{CodeConfiguration, IsEnough, code_start, reduce_code};
 ghost use Rattle.campl_cells.specs.Parts.{Life, Parts, Proc};
 ghost use Rattle.campl_cells.specs.Wants.{Drawn};
-ghost use Rattle.campl_cells.specs.Steps.{Change, after, change_of};
+ghost use Rattle.campl_cells.specs.Steps.{Change, KeptAt, after, change_of};
 ghost use Rattle.campl_cells.specs.Stands.{IsFresh, Naming, StandsFor, StepsAlike};
+ghost use Rattle.campl_cells.specs.Starts.{start_naming, start_parts};
 ghost use Rattle.campl_cells.specs.Local.{ElseStays, SameInHand};
 
 /// Where parts stand for a configuration, the instructions for each process's expressions are enough from some number on; and
@@ -29,4 +34,10 @@ pub fn law_local()
 pub fn law_frame()
     ensures { (code : Code) (d : Drawn) (m : Parts) (p : ℕ) (q : Proc) (i : ℕ) (change : Change) (life : Life) (child : Option Life)
         → change_of code d m p q i ≡ Some change → ElseStays code d m p q i (after d m p q change life child) }
+{}
+
+/// The parts at the start stand for the code's start, with what `run` keeps at the head of its block.
+pub fn law_start()
+    ensures { (w : World) (code : Code) (g : ℕ) (b : Block) (kept : Kept) (scripts : List Lines) → KeptAt code (length code.functions + g) 0 (frame_of code.decisions b []) kept
+        → StandsFor code start_naming (start_parts w code g kept scripts) (code_start w code g b scripts) }
 {}

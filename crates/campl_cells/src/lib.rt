@@ -5,6 +5,7 @@
 //! - `specs/Wants` says what a process or service does next, read off its part.
 //! - `specs/Steps` says what a step changes, and the parts after it.
 //! - `specs/Stands` says when parts stand for a configuration of the machine, under the machine's names of the numbers.
+//! - `specs/Starts` has the parts at the start.
 //! - `specs/Local` says which parts a step reads and changes.
 //!
 //! `src/laws.rt` has the laws: parts have the steps of the configuration that they stand for.
@@ -12,4 +13,4 @@
 
 mod laws;
 
-pub use laws::{law_frame, law_local, law_step};
+pub use laws::{law_frame, law_local, law_start, law_step};
