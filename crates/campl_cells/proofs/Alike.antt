@@ -59,6 +59,7 @@ pub record MovesAs (code : Code) (n : Naming) (tip : ℕ → Option Tip) (d : Dr
     second = None;
     act = Moves (record { send = named_send n.end v.send; channels = pairs n.end v.channels; children = children; next = state });
   }
+  pub end_there : IfSome end (IsEnd tip)
   pub few : FewChannels d v.channels
   pub sending : SendWithin (IsEnd tip) (IsEnd (written (borne v.channels) tip)) v.send
   pub goes : GoesAs code n (IsEnd (written (borne v.channels) tip)) who (suc steps) v.next state
@@ -101,13 +102,13 @@ module _ (code : Code) (n : Naming) (tip : ℕ → Option Tip) (d : Drawn) (who 
   one-same kind (v ∷ []) f g a = a v
   one-same kind (v ∷ u ∷ vs) f g a = inr refl
 
-  pub quiet-as : (kind : Kind) (end : Option ℕ) (next : Next) (state : Option CodeState) → GoesAs code n (IsEnd tip) who (suc steps) next state →
+  pub quiet-as : (kind : Kind) (end : Option ℕ) (next : Next) (state : Option CodeState) → IfSome end (IsEnd tip) → GoesAs code n (IsEnd tip) who (suc steps) next state →
       WantAs code n tip d who steps (w.quiet kind end next) (c.command kind (option_map n.end end) (Moves (record { send = None; channels = []; children = []; next = state })))
-  quiet-as kind end next state g = record { children = []; state = state; is = refl; few = tt; sending = tt; goes = g; bears = tt }
+  quiet-as kind end next state there g = record { children = []; state = state; is = refl; end_there = there; few = tt; sending = tt; goes = g; bears = tt }
 
   pub send-as : (kind : Kind) (e : ℕ) (mail : Mail) (next : Next) (state : CodeState) → IsSome (tip e) → MailWithin (IsEnd tip) mail → GoesAs code n (IsEnd tip) who (suc steps) next (Some state) →
       WantAs code n tip d who steps (w.sends kind e mail next) (c.command kind (Some (n.end e)) (c.sends (n.end e) (named_mail n.end mail) state))
-  send-as kind e mail next state there within g = record { children = []; state = Some state; is = refl; few = tt; sending = (there, within); goes = g; bears = tt }
+  send-as kind e mail next state there within g = record { children = []; state = Some state; is = refl; end_there = there; few = tt; sending = (there, within); goes = g; bears = tt }
 
   pub look-as : (kind : Kind) (takes : Bool) (e : ℕ) (g : Mail → Option Next) (look : Message → Option CodeState) → IsSome (tip e) →
       ((mail : Mail) → MailWithin (IsEnd tip) mail → FitsAs code n (IsEnd tip) who (suc steps) (g mail) (look (named_mail n.end mail))) →

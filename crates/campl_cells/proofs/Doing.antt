@@ -182,6 +182,7 @@ module _ (code : Code) (n : Naming) (tip : ℕ → Option Tip) (d : Drawn) (who 
         next = Some (c.onward cell at vars (c.set_end l near1 cell.ends));
       });
     };
+    end_there = there;
     few = (refl, refl);
     sending = (there, (written-lies (borne (d.channel ∷ d.channel2 ∷ [])) tip (far d.channel) (inr (inr (inl refl))), written-lies (borne (d.channel ∷ d.channel2 ∷ [])) tip (far d.channel2) (inl refl)));
     goes = on TwoBorn at vars (set_end l (near d.channel) h.ends) (c.set_end l near1 cell.ends)
@@ -231,6 +232,7 @@ module _ (code : Code) (n : Naming) (tip : ℕ → Option Tip) (d : Drawn) (who 
         next = Some (c.onward cell at vars (c.set_end number (c.born path cell 1 (half_on (opposite side))) cell.ends));
       });
     };
+    end_there = tt;
     few = refl;
     sending = tt;
     goes = on OneBorn at vars (set_end number (end_on (opposite side) d.channel) h.ends) (c.set_end number (c.born path cell 1 (half_on (opposite side))) cell.ends)
@@ -253,7 +255,7 @@ module _ (code : Code) (n : Naming) (tip : ℕ → Option Tip) (d : Drawn) (who 
       (λ e there. found-end code n tip d who steps k.Link (h.ends other) _ _ (held other) (λ f there2. record { is = refl; there_x = there; there_y = there2 }))
 
   call-as : (g : ℕ) (channels : List ℕ) (values : List Tree) (b : Block) → As (w.quiet k.Call None (Begins (w.called code h g channels values b))) (c.called code cell g channels values b)
-  call-as g channels values b = quiet-as code n tip d who steps k.Call None (Begins (w.called code h g channels values b)) _
+  call-as g channels values b = quiet-as code n tip d who steps k.Call None (Begins (w.called code h g channels values b)) _ tt
       (begins code n (IsEnd tip) who (suc steps) path named (w.called code h g channels values b) (λ i. end-at-within (IsEnd tip) h.ends held (slice_get channels i))
       (λ i. c.end_at cell.ends (slice_get channels i)) (fun_ext (λ i. end-at-named n.end h.ends (slice_get channels i))))
 
@@ -267,10 +269,10 @@ module _ (code : Code) (n : Naming) (tip : ℕ → Option Tip) (d : Drawn) (who 
   behind-as block branch at vars values (i.Split x l r) = found-end code n tip d who steps k.Split (h.ends x) _ _ (held x)
       (λ e there. look-as code n tip d who steps k.Split true e (w.after_split h (at + 1) vars l r) (c.ends_to (λ f g. Some (c.onward cell (at + 1) vars (c.set_end r g (c.set_end l f cell.ends))))) there (split-fits (at + 1) vars l r))
   behind-as block branch at vars values (i.Close x) = found-end code n tip d who steps k.Close (h.ends x) _ _ (held x)
-      (λ e there. quiet-as code n tip d who steps k.Close (Some e) (onward h (at + 1) vars h.ends) (Some (c.onward cell (at + 1) vars cell.ends)) (on-same (at + 1) vars))
-  behind-as block branch at vars values (i.Halt None) = quiet-as code n tip d who steps k.Halt None w.Gone None (gone-as code n (IsEnd tip) who (suc steps))
+      (λ e there. quiet-as code n tip d who steps k.Close (Some e) (onward h (at + 1) vars h.ends) (Some (c.onward cell (at + 1) vars cell.ends)) there (on-same (at + 1) vars))
+  behind-as block branch at vars values (i.Halt None) = quiet-as code n tip d who steps k.Halt None w.Gone None tt (gone-as code n (IsEnd tip) who (suc steps))
   behind-as block branch at vars values (i.Halt (Some x)) = found-end code n tip d who steps k.Halt (h.ends x) _ _ (held x)
-      (λ e there. quiet-as code n tip d who steps k.Halt (Some e) w.Gone None (gone-as code n (IsEnd tip) who (suc steps)))
+      (λ e there. quiet-as code n tip d who steps k.Halt (Some e) w.Gone None there (gone-as code n (IsEnd tip) who (suc steps)))
   behind-as block branch at vars values (i.Offer x targets) = found-end code n tip d who steps k.Offer (h.ends x) _ _ (held x)
       (λ e there. look-as code n tip d who steps k.Offer true e (w.after_offer h vars targets) (c.pick_to (λ m. option_map (λ to. c.onward cell to vars cell.ends) (slice_get targets m))) there (offer-fits vars targets))
   behind-as block branch at vars values (i.Fork x l r to) = found-end code n tip d who steps k.Fork (h.ends x) _ _ (held x) (λ e there. fork-as (at + 1) vars e l r to there)
@@ -281,7 +283,7 @@ module _ (code : Code) (n : Naming) (tip : ℕ → Option Tip) (d : Drawn) (who 
   behind-as block branch at vars values (i.Case x base targets) = found-same code n tip d who steps k.Case (slice_get code.decisions x) _ _
       (λ t. found-same code n tip d who steps k.Case (chosen t.tree values) _ _
       (λ r. found-same code n tip d who steps k.Case (slice_get targets r.0) _ _
-      (λ to. quiet-as code n tip d who steps k.Case None (onward h to (set_from base r.1 vars) h.ends) (Some (c.onward cell to (set_from base r.1 vars) cell.ends)) (on-same to (set_from base r.1 vars)))))
+      (λ to. quiet-as code n tip d who steps k.Case None (onward h to (set_from base r.1 vars) h.ends) (Some (c.onward cell to (set_from base r.1 vars) cell.ends)) tt (on-same to (set_from base r.1 vars)))))
   behind-as block branch at vars values (i.Link x y) = link-as x y
   behind-as block branch at vars values (i.LinkNeg x y) = link-as x y
   behind-as block branch at vars values (i.Go g channels) = found-same code n tip d who steps k.Call (slice_get code.processes g) _ _ (λ b. call-as g channels values b)
@@ -327,5 +329,5 @@ module _ (code : Code) (n : Naming) (tip : ℕ → Option Tip) (d : Drawn) (who 
   -- what the process wants by what it keeps is what its cell wants
   pub kept-as : (branch : ℕ) (o : Kept) → As (w.kept_want code d h branch o) (kept_command code cell path branch o)
   kept-as branch (Values at vars values) = block-as branch at vars values (slice_get (blocks code) h.block)
-  kept-as branch (AtCall f fs) = quiet-as code n tip d who steps k.Work None (Spends h) (Some (c.spends cell)) spends-as
+  kept-as branch (AtCall f fs) = quiet-as code n tip d who steps k.Work None (Spends h) (Some (c.spends cell)) tt spends-as
   kept-as branch Broken = inr refl

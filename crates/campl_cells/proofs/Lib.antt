@@ -17,3 +17,4 @@ pub mod Looking
 pub mod Theorem
 pub mod Starting
 pub mod StartNodes
+pub mod GoingOn

@@ -1,5 +1,5 @@
 -- A step that looked at a message, and an identity.
-use Rattle.std.proofs.Common.{◌≡◌, ◌≢◌, ℕ, suc, Bool, true, false, List, [], ◌∷◌, Option, Some, None, IsSome}
+use Rattle.std.proofs.Common.{◌≡◌, ◌≢◌, ℕ, suc, Bool, true, false, List, [], ◌∷◌, Option, Some, None, IsSome, if◌then◌else◌, IfSome}
 use Rattle.campl_machine.specs.Names.{End, same_end, same_who}
 use Rattle.campl_machine.specs.Machine as machine
 use Rattle.campl_machine.specs.Machine.{update, rewired, joined, taken}
@@ -7,11 +7,12 @@ use Rattle.campl_meaning.specs.States.{Message, Kind}
 use Rattle.campl_code.specs.Instructions.{Code}
 use Rattle.campl_code_bodies.specs.Commands.{CodeState}
 use Rattle.campl_code_bodies.specs.Running.{CodeConfiguration}
-use Rattle.campl_cells.specs.Parts.{Mail, Life, Proc, Tip, Parts, put, or_bare}
+use Rattle.campl_cells.specs.Parts.{Mail, Life, Proc, Tip, Parts, put, or_bare, written}
 use Rattle.campl_cells.specs.Wants.{Drawn, Next, Gone}
-use Rattle.campl_cells.specs.Steps.{looked, linked, goes_on, after, IsLifeOf, IsChildOf}
-use Rattle.campl_cells.specs.Stands.{Naming, StandsFor, IsFresh, IsNode, LifeWithin, IsEnd}
-use Rattle.campl_cells.proofs.Tips.{TipsStand}
+use Rattle.campl_cells.specs.Steps.{looked, linked, goes_on, after, IsLifeOf, IsChildOf, peopled, tips_joined}
+use Rattle.campl_cells.specs.Stands.{Naming, StandsFor, IsFresh, IsNode, LifeWithin, IsEnd, IsEntryOf, MailWithin}
+use Rattle.campl_cells.proofs.Puts.{is-there, put-keeps, written-keeps}
+use Rattle.campl_cells.proofs.Tips.{TipsStand, mail-wider, peer-there}
 use Rattle.campl_cells.proofs.Receiving.{taking, taking-keeps, taking-before}
 use Rattle.campl_cells.proofs.Linking.{linking, linking-keeps, linking-before}
 use Rattle.campl_cells.proofs.Nodes.{borne-grown, on-grown, on-births}
@@ -57,3 +58,39 @@ module _ (code : Code) (n : Naming) (m : Parts) (c : CodeConfiguration) (z : Sta
       (linking-before n.end m.tip c.partner c.owed (tips-of code n m c z) x y x2 y2 px py xy x2y)
       life None (gone-as code n (IsEnd m.tip) (n.who p) (suc q.steps) life is)
   links-stand x y x2 y2 px py xy x2y life (Some l) is born = absurd born
+
+  p-there : IsSome (m.process p)
+  p-there = is-there (m.process p) q there
+
+  same-ends : (takes : Bool) (e f : ℕ) → (or_bare (m.tip e)).peer ≡ Some f → (rest : List Mail) (k : ℕ) → IsSome (m.tip k) →
+      IsSome (written (if takes then (e, record { peer = Some f; inbox = rest }) ∷ [] else []) m.tip k)
+  same-ends true e f pf rest k h = put-keeps e (record { peer = Some f; inbox = rest }) m.tip k h
+  same-ends false e f pf rest k h = h
+
+  pub looks-entry : (takes : Bool) (kind : Kind) (e f : ℕ) → (or_bare (m.tip e)).peer ≡ Some f → (mail : Mail) (rest : List Mail) → MailWithin (IsEnd m.tip) mail → (next : Next) →
+      (life : Life) (child : Option Life) → IsEntryOf (after d m p q (looked p kind takes e (Some f) mail rest next) life child) (looked p kind takes e (Some f) mail rest next).entry
+  looks-entry takes kind e f pf mail rest within next life child = record {
+    process = written-keeps (peopled d p q life child) m.process p p-there;
+    end = same-ends takes e f pf rest e (peer-there (m.tip e) f pf);
+    second = tt;
+    message = go takes;
+    child = tt;
+    channel = tt;
+    channel2 = tt;
+  }
+    where
+      go : (b : Bool) → IfSome (if b then Some mail else None) (MailWithin (IsEnd (written (if takes then (e, record { peer = Some f; inbox = rest }) ∷ [] else []) m.tip)))
+      go true = mail-wider (IsEnd m.tip) (IsEnd (written (if takes then (e, record { peer = Some f; inbox = rest }) ∷ [] else []) m.tip)) (same-ends takes e f pf rest) mail within
+      go false = tt
+
+  pub links-entry : (x y x2 y2 : ℕ) → IsSome (m.tip x) → IsSome (m.tip y) → (life : Life) (child : Option Life) →
+      IsEntryOf (after d m p q (linked m.tip p x y x2 y2) life child) (linked m.tip p x y x2 y2).entry
+  links-entry x y x2 y2 hx hy life child = record {
+    process = written-keeps (peopled d p q life child) m.process p p-there;
+    end = written-keeps (tips_joined m.tip x y x2 y2) m.tip x hx;
+    second = written-keeps (tips_joined m.tip x y x2 y2) m.tip y hy;
+    message = tt;
+    child = tt;
+    channel = tt;
+    channel2 = tt;
+  }

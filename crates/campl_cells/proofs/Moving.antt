@@ -1,5 +1,5 @@
 -- A step that waits for nothing: what is born, what is sent, and how the process goes on.
-use Rattle.std.proofs.Common.{◌≡◌, ◌≢◌, ◌⊎◌, inl, inr, ℕ, suc, List, [], ◌∷◌, ◌++◌, Option, Some, None, IsSome, IfSome, refl, sym, ap, ap₂, subst, ◌∙◌, if◌then◌else◌, arith}
+use Rattle.std.proofs.Common.{◌≡◌, ◌≢◌, ◌⊎◌, inl, inr, ℕ, suc, List, [], ◌∷◌, ◌++◌, Option, Some, None, IsSome, IfSome, refl, sym, ap, ap₂, subst, ◌∙◌, if◌then◌else◌, arith, option_map}
 use Rattle.campl_machine.specs.Names.{Path, First, Second, End, Who, Process, same_end, same_who}
 use Rattle.campl_machine.specs.Machine as machine
 use Rattle.campl_machine.specs.Machine.{Lies, update, both_ways, alive}
@@ -9,10 +9,10 @@ use Rattle.campl_code_bodies.specs.Commands.{CodeState}
 use Rattle.campl_code_bodies.specs.Running.{CodeConfiguration}
 use Rattle.campl_cells.specs.Parts.{Mail, Life, Ended, Runs, Serves, Proc, Tip, Parts, near, far, put, written, or_bare, or_else, owner}
 use Rattle.campl_cells.specs.Wants.{Drawn, Start, Move}
-use Rattle.campl_cells.specs.Steps.{borne, sent, arrives, moved, goes_on, newborn, peopled, after, IsLifeOf, IsChildOf}
-use Rattle.campl_cells.specs.Stands.{Naming, StandsFor, IsFresh, IsBorneBy, IsNode, LifeWithin, IsEnd}
-use Rattle.campl_cells.proofs.Puts.{put-both, put-here, put-else, put-keeps, if-then, is-there, not-free, written-keeps, written-from, written-else}
-use Rattle.campl_cells.proofs.Tips.{TipsStand, end-here, end-else, owner-there, ne}
+use Rattle.campl_cells.specs.Steps.{borne, sent, arrives, moved, goes_on, newborn, peopled, after, IsLifeOf, IsChildOf, first_of, second_of, child_number}
+use Rattle.campl_cells.specs.Stands.{Naming, StandsFor, IsFresh, IsBorneBy, IsNode, LifeWithin, IsEnd, IsEntryOf, MailWithin}
+use Rattle.campl_cells.proofs.Puts.{put-both, put-here, put-else, put-keeps, if-then, is-there, not-free, written-keeps, written-from, written-else, put-there, written-lies}
+use Rattle.campl_cells.proofs.Tips.{TipsStand, end-here, end-else, owner-there, ne, mail-wider}
 use Rattle.campl_cells.proofs.Channels.{bearing}
 use Rattle.campl_cells.proofs.Sending.{sending}
 use Rattle.campl_cells.proofs.Nodes.{NodesStand, node-written, who-here, who-else, HasMade, Grown, Bearers, borne-grown, on-grown, on-made, on-births, child-grown, child-births}
@@ -49,6 +49,30 @@ channels-apart x y a b e = let f : ⊥ = omega (arith, a, b, ap (λ (x : End). x
 
 halves-apart : (x y : End) → x.half ≡ First → y.half ≡ Second → x ≢ y
 halves-apart x y a b e = let f : First ≡ Second = sym a ∙ (ap (λ (x : End). x.half) e ∙ b) in cc f
+
+-- What an entry names
+
+message-within : (Old There New : ℕ → Type 0) → ((e : ℕ) → There e → New e) → (o : Option (ℕ × Mail)) → SendWithin Old There o → IfSome (option_map (λ s. s.1) o) (MailWithin New)
+message-within Old There New f None h = tt
+message-within Old There New f (Some s) h = mail-wider There New f s.1 h.1
+
+lies-behind : {A : Type 0} (es fs : List (ℕ × A)) (k : ℕ) → Lies fs k → Lies (es ++ fs) k
+lies-behind [] fs k l = l
+lies-behind (e ∷ es) fs k l = inr (lies-behind es fs k l)
+
+lies-before : {A : Type 0} (es fs : List (ℕ × A)) (k : ℕ) → Lies es k → Lies (es ++ fs) k
+lies-before [] fs k l = absurd l
+lies-before (e ∷ es) fs k (inl q) = inl q
+lies-before (e ∷ es) fs k (inr l) = inr (lies-before es fs k l)
+
+first-born : (cs : List ℕ) → IfSome (first_of cs) (λ c. Lies (borne cs) (near c) × Lies (borne cs) (far c))
+first-born [] = tt
+first-born (c ∷ cs) = (lies-behind (borne cs) _ (near c) (inr (inl refl)), lies-behind (borne cs) _ (far c) (inl refl))
+
+second-born : (cs : List ℕ) → IfSome (second_of cs) (λ c. Lies (borne cs) (near c) × Lies (borne cs) (far c))
+second-born [] = tt
+second-born (c ∷ cs) = if-then (λ c. Lies (borne cs) (near c) × Lies (borne cs) (far c)) (λ b. Lies (borne (c ∷ cs)) (near b) × Lies (borne (c ∷ cs)) (far b)) (first_of cs)
+    (λ b e h. (lies-before (borne cs) _ (near b) h.0, lies-before (borne cs) _ (far b) h.1)) (first-born cs)
 
 module _ (code : Code) (n : Naming) (m : Parts) (c : CodeConfiguration) (z : StandsFor code n m c) (d : Drawn) (fresh : IsFresh d m)
     (p : ℕ) (q : Proc) (there : m.process p ≡ Some q) where
@@ -263,6 +287,27 @@ module _ (code : Code) (n : Naming) (m : Parts) (c : CodeConfiguration) (z : Sta
         go : (cs : List ℕ) → FewChannels d cs → Names n d p q.steps cs v.child → Lies (borne cs) e → IsBorneBy n process (n.end e)
         go [] few names l = absurd l
         go (a ∷ cs) few names l = of-names (for-channel n d p q.steps a cs v.child names) (lies-drawn d (a ∷ cs) few e l)
+
+    pub moves-entry : IfSome end (IsEnd m.tip) → (life : Life) (child : Option Life) → IsChildOf code v.child child →
+        IsEntryOf (after d m p q (moved m.tip d p kind end v) life child) (moved m.tip d p kind end v).entry
+    moves-entry h life child born = record {
+      process = written-keeps (peopled d p q life child) m.process p p-there;
+      end = wider (IsEnd m.tip) (IsEnd tip3) old3 end h;
+      second = tt;
+      message = message-within (IsEnd m.tip) There (IsEnd tip3) keeps3 v.send within;
+      child = go v.child child born;
+      channel = new-ends (first_of v.channels) (first-born v.channels);
+      channel2 = new-ends (second_of v.channels) (second-born v.channels);
+    }
+      where
+        go : (s : Option Start) (child : Option Life) → IsChildOf code s child → IfSome (child_number d s) (λ i. IsSome (written (peopled d p q life child) m.process i))
+        go None child born = tt
+        go (Some s) (Some l) born = put-there d.child (newborn p q l) (put p (Some (goes_on q life)) m.process)
+        go (Some s) None born = absurd born
+
+        new-ends : (o : Option ℕ) → IfSome o (λ c. Lies (borne v.channels) (near c) × Lies (borne v.channels) (far c)) → IfSome o (λ c. IsEnd tip3 (near c) × IsEnd tip3 (far c))
+        new-ends o = if-then (λ c. Lies (borne v.channels) (near c) × Lies (borne v.channels) (far c)) (λ c. IsEnd tip3 (near c) × IsEnd tip3 (far c)) o
+            (λ c e h. (keeps3 (near c) (written-lies (borne v.channels) m.tip (near c) h.0), keeps3 (far c) (written-lies (borne v.channels) m.tip (far c) h.1)))
 
     module _ (life : Life) (o : Option CodeState) (goes : IsNode code n.end (n.who p) (suc q.steps) life o × LifeWithin There life) where
       abbrev on : ℕ → Option Proc

@@ -71,6 +71,7 @@ module _ (code : Code) (n : Naming) (tip : ℕ → Option Tip) (d : Drawn) (who 
       second = None;
       act = Moves (record { send = said-named a.1 i; channels = []; children = []; next = Some (Beside (t.served (n.end e) a)) });
     };
+    end_there = there;
     few = tt;
     sending = said-within a.1;
     goes = serves-as a;

@@ -25,7 +25,7 @@ use Rattle.campl_cells.specs.Wants as w
 use Rattle.campl_cells.specs.Wants.{Drawn, Start, Next, Move, Want, Rests, wanted}
 use Rattle.campl_cells.specs.Steps as steps
 use Rattle.campl_cells.specs.Steps.{Entry, Change, moved, looked, looks_in, linked, by_want, change_of, after, first_of, second_of, child_number, IsLifeOf, IsChildOf}
-use Rattle.campl_cells.specs.Stands.{Naming, StandsFor, Grows, IsFresh, IsNode, IsCell, IsServing, IsEnd, LifeWithin, MailWithin, StepsAlike, cell_of, named_mail, named_child, named_channels, named_entry}
+use Rattle.campl_cells.specs.Stands.{Naming, StandsFor, Grows, IsFresh, IsNode, IsCell, IsServing, IsEnd, LifeWithin, MailWithin, StepsAlike, cell_of, named_mail, named_child, named_channels, named_entry, IsEntryOf}
 use Rattle.campl_cells.proofs.Puts.{same, if-here, is-there}
 use Rattle.campl_cells.proofs.Tips.{peer-there}
 use Rattle.campl_cells.proofs.Together.{tips-of}
@@ -34,8 +34,8 @@ use Rattle.campl_cells.proofs.Alike.{ChildAs, FitsAs, FewChannels, MovesAs, Want
 use Rattle.campl_cells.proofs.Doing.{NamesDrawn, kept-as}
 use Rattle.campl_cells.proofs.Serving.{serving-as}
 use Rattle.campl_cells.proofs.Fresh.{drawn-naming, drawn-names, drawn-grows}
-use Rattle.campl_cells.proofs.Moving.{BirthNames, Names, moves-stand}
-use Rattle.campl_cells.proofs.Looking.{looks-stand, links-stand}
+use Rattle.campl_cells.proofs.Moving.{BirthNames, Names, moves-stand, moves-entry}
+use Rattle.campl_cells.proofs.Looking.{looks-stand, links-stand, looks-entry, links-entry}
 
 -- Entries and events
 
@@ -62,11 +62,12 @@ module _ (code : Code) (n : Naming) (m : Parts) (c : CodeConfiguration) (z : Sta
   abbrev who : Who
   who = n.who p
 
-  -- the event of the entry, and parts that stand under the same naming
+  -- the event of the entry, and parts that stand under the same naming, and have the numbers of the entry
   abbrev Same : Option (Event × CodeConfiguration) → Option Change → Type 0
   Same None None = Unit {0}
   Same (Some r) (Some change) = (r.0 ≡ named_entry n change.entry) ×
-      ((life : Life) (child : Option Life) → IsLifeOf code change.next life → IsChildOf code change.child child → StandsFor code n (after d m p q change life child) r.1)
+      ((life : Life) (child : Option Life) → IsLifeOf code change.next life → IsChildOf code change.child child →
+      StandsFor code n (after d m p q change life child) r.1 × IsEntryOf (after d m p q change life child) change.entry)
   Same (Some r) None = ⊥
   Same None (Some change) = ⊥
 
@@ -88,7 +89,10 @@ module _ (code : Code) (n : Naming) (m : Parts) (c : CodeConfiguration) (z : Sta
       children = child-named code n _ d v.child a.children a.bears i;
       channels = channels-named n d v.channels a.few i;
     }),
-    moves-stand code n m c z d fresh p q there kind end v names a.few a.sending a.state a.children a.goes a.bears,
+    λ life child is born. (
+      moves-stand code n m c z d fresh p q there kind end v names a.few a.sending a.state a.children a.goes a.bears life child is born,
+      moves-entry code n m c z d fresh p q there kind end v names a.few a.sending a.end_there life child born,
+    ),
   )
 
   -- Looks
@@ -104,6 +108,9 @@ module _ (code : Code) (n : Naming) (m : Parts) (c : CodeConfiguration) (z : Sta
     command = record { kind = kind; end = Some (n.end e); second = None; act = Looks takes (n.end e) look }
 
     module _ (f : ℕ) (pf : (or_bare (m.tip e)).peer ≡ Some f) (mail : Mail) (rest : List Mail) (il : (or_bare (m.tip e)).inbox ≡ mail ∷ rest) where
+      within : MailWithin (IsEnd m.tip) mail
+      within = (subst (AllByRecursion (MailWithin (IsEnd m.tip))) il ((tips-of code n m c z).carried e)).0
+
       owed-is : c.owed (n.end f) ≡ named_mail n.end mail ∷ map (named_mail n.end) rest
       owed-is = owed-at e f pf ∙ ap (map (named_mail n.end)) il
 
@@ -119,16 +126,16 @@ module _ (code : Code) (n : Naming) (m : Parts) (c : CodeConfiguration) (z : Sta
       fitting None None h = tt
       fitting (Some next) (Some s) h = (
         (λ i. record { kind = kind; end = Some (n.end e); second = None; message = message-is takes i; children = []; channels = [] }),
-        looks-stand code n m c z d fresh p q there takes kind e f pf mail rest il next s h,
+        λ life child is born. (
+          looks-stand code n m c z d fresh p q there takes kind e f pf mail rest il next s h life child is born,
+          looks-entry code n m c z d fresh p q there takes kind e f pf mail rest within next life child,
+        ),
       )
       fitting None (Some s) h = absurd h
       fitting (Some next) None h = absurd h
 
       found : FitsAs code n (IsEnd m.tip) who (suc q.steps) (g mail) (look (named_mail n.end mail)) → Same (reduce_command c who command) (looks_in p kind takes e g (Some f) (mail ∷ rest))
       found h = subst (λ o. Same (reduces command o) (looks_in p kind takes e g (Some f) (mail ∷ rest))) (sym performs-is) (fitting (g mail) (look (named_mail n.end mail)) h)
-
-    first-within : (mail : Mail) (rest : List Mail) → (or_bare (m.tip e)).inbox ≡ mail ∷ rest → MailWithin (IsEnd m.tip) mail
-    first-within mail rest il = (subst (AllByRecursion (MailWithin (IsEnd m.tip))) il ((tips-of code n m c z).carried e)).0
 
     looking : IsSome (m.tip e) → ((mail : Mail) → MailWithin (IsEnd m.tip) mail → FitsAs code n (IsEnd m.tip) who (suc q.steps) (g mail) (look (named_mail n.end mail))) →
         (o : Option ℕ) → (or_bare (m.tip e)).peer ≡ o → (l : List Mail) → (or_bare (m.tip e)).inbox ≡ l → Same (reduce_command c who command) (looks_in p kind takes e g o l)
@@ -138,7 +145,7 @@ module _ (code : Code) (n : Naming) (m : Parts) (c : CodeConfiguration) (z : Sta
     looking h fits (Some f) pf [] il =
         let nothing : c.owed (n.end f) ≡ [] = owed-at e f pf ∙ ap (map (named_mail n.end)) il in
         subst (λ o. Same (reduces command o) None) (sym (ap (λ o. at o None (λ z. looks_at c who takes look z (c.owed z))) (partner-at e f pf) ∙ ap (looks_at c who takes look (n.end f)) nothing)) tt
-    looking h fits (Some f) pf (mail ∷ rest) il = found f pf mail rest il (fits mail (first-within mail rest il))
+    looking h fits (Some f) pf (mail ∷ rest) il = found f pf mail rest il (fits mail (within f pf mail rest il))
 
   -- Identities
 
@@ -160,7 +167,7 @@ module _ (code : Code) (n : Naming) (m : Parts) (c : CodeConfiguration) (z : Sta
                 rw (a, b, ne_eqb x y e, eq-eqb x2 y r) tt
             | inr r ↦
                 let b : same_end (n.end x2) (n.end y) ≡ false = apart (n.end x2) (n.end y) (λ s. r (z.named.ends x2 y hx2 hy s)) in
-                rw (a, b, ne_eqb x y e, ne_eqb x2 y r) (refl, links-stand code n m c z d fresh p q there x y x2 y2 px py e r)
+                rw (a, b, ne_eqb x y e, ne_eqb x2 y r) (refl, λ life child is born. (links-stand code n m c z d fresh p q there x y x2 y2 px py e r life child is born, links-entry code n m c z d fresh p q there x y x2 y2 hx hy life child))
           ]
     ]
       where
@@ -230,10 +237,18 @@ wanted-kept code c path branch Short over = absurd over
 
 module _ (code : Code) (n : Naming) (m : Parts) (c : CodeConfiguration) (z : StandsFor code n m c) (d : Drawn) (fresh : IsFresh d m)
     (p : ℕ) (q : Proc) (there : m.process p ≡ Some q) (i : ℕ) where
+  -- the numbers of the entry are in use behind the change
+  abbrev EntryThere : Option Change → Type 0
+  EntryThere None = Unit {0}
+  EntryThere (Some change) = (life : Life) (child : Option Life) → IsLifeOf code change.next life → IsChildOf code change.child child → IsEntryOf (after d m p q change life child) change.entry
+
+  abbrev Both : Option (Event × CodeConfiguration) → Option Change → Type 0
+  Both r o = StepsAlike code n d m p q r o × EntryThere o
+
   -- what stands under a naming that grew
-  grown : (n2 : Naming) → Grows n n2 m → (r : Option (Event × CodeConfiguration)) (o : Option Change) → (z2 : StandsFor code n2 m c) → Same code n2 m c z2 d fresh p q there r o → StepsAlike code n d m p q r o
-  grown n2 g None None z2 s = tt
-  grown n2 g (Some r) (Some change) z2 s = (n2, g, s.0, s.1)
+  grown : (n2 : Naming) → Grows n n2 m → (r : Option (Event × CodeConfiguration)) (o : Option Change) → (z2 : StandsFor code n2 m c) → Same code n2 m c z2 d fresh p q there r o → Both r o
+  grown n2 g None None z2 s = (tt, tt)
+  grown n2 g (Some r) (Some change) z2 s = ((n2, g, s.0, λ life child is born. (s.1 life child is born).0), λ life child is born. (s.1 life child is born).1)
   grown n2 g (Some r) None z2 s = absurd s
   grown n2 g None (Some change) z2 s = absurd s
 
@@ -262,7 +277,7 @@ module _ (code : Code) (n : Naming) (m : Parts) (c : CodeConfiguration) (z : Sta
         (kept-as code n2 m.tip d (n2.who p) q.steps is.path is.process h is.at is.vars is.spent is.kept held drawn i h.kept))
 
   run-alike : (h : Held) → q.life ≡ Runs h → IsCell code n.end (n.who p) q.steps h (c.nodes (n.who p)) → (k : ℕ) → IsEnough code k (c.nodes (n.who p)) →
-      StepsAlike code n d m p q (reduce_code code k c (n.who p) i) (by_want m.tip d p (w.kept_want code d h i h.kept))
+      Both (reduce_code code k c (n.who p) i) (by_want m.tip d p (w.kept_want code d h i h.kept))
   run-alike h life is k enough =
       let n2 = drawn-naming n m d fresh is.path (suc q.steps) in
       let g : Grows n n2 m = drawn-grows n m d fresh is.path (suc q.steps) in
@@ -279,13 +294,13 @@ module _ (code : Code) (n : Naming) (m : Parts) (c : CodeConfiguration) (z : Sta
             ∙ (is.runs ∙ ap (λ (ends : commands.Ends). Some (RunsCode (record { block = h.block; at = is.at; vars = is.vars; ends = ends; steps = q.steps; spent = is.spent }))) (ends-same n.end n2.end (IsEnd m.tip) g.end h.ends held));
         kept = is.kept;
       } in
-      subst (λ v. StepsAlike code n d m p q (reduce_code code k c v i) (by_want m.tip d p (w.kept_want code d h i h.kept))) same_who
+      subst (λ v. Both (reduce_code code k c v i) (by_want m.tip d p (w.kept_want code d h i h.kept))) same_who
       (grown n2 g (reduce_code code k c (n2.who p) i) (by_want m.tip d p (w.kept_want code d h i h.kept)) z2
       (running n2 g z2 h
       is2 (drawn-names n m d fresh is.path (suc q.steps)) held k (subst (λ v. IsEnough code k (c.nodes v)) (sym same_who) enough)))
 
   serve-alike : (e : ℕ) (s : services.Serving) → q.life ≡ Serves e s → IsServing n.end (n.who p) e s (c.nodes (n.who p)) → (k : ℕ) →
-      StepsAlike code n d m p q (reduce_code code k c (n.who p) i) (by_want m.tip d p (w.serving_want e s (services.want s)))
+      Both (reduce_code code k c (n.who p) i) (by_want m.tip d p (w.serving_want e s (services.want s)))
   serve-alike e s life is k =
       let held : LifeWithin (IsEnd m.tip) (Serves e s) = subst (LifeWithin (IsEnd m.tip)) life (if-here (λ q. LifeWithin (IsEnd m.tip) q.life) (m.process p) q there (z.wired.held p)) in
       let command : CodeCommand = command_beside (serving_command (record { end = n.end e; serving = s }) (services.want s)) in
@@ -297,14 +312,21 @@ module _ (code : Code) (n : Naming) (m : Parts) (c : CodeConfiguration) (z : Sta
       (serving-names code n m c z d fresh p q there e s (services.want s))
       (serving-as code n m.tip d (n.who p) q.steps is.number is.service e held s (services.want s))))
 
-  -- a step by number is the machine's
-  pub step-alike : (k : ℕ) → IsEnough code k (c.nodes (n.who p)) → StepsAlike code n d m p q (reduce_code code k c (n.who p) i) (change_of code d m p q i)
-  step-alike k enough = go q.life refl (if-here (λ q. IsNode code n.end (n.who p) q.steps q.life (c.nodes (n.who p))) (m.process p) q there (z.shows.process p))
+  both-alike : (k : ℕ) → IsEnough code k (c.nodes (n.who p)) → Both (reduce_code code k c (n.who p) i) (change_of code d m p q i)
+  both-alike k enough = go q.life refl (if-here (λ q. IsNode code n.end (n.who p) q.steps q.life (c.nodes (n.who p))) (m.process p) q there (z.shows.process p))
     where
-      go : (life : Life) → q.life ≡ life → IsNode code n.end (n.who p) q.steps life (c.nodes (n.who p)) → StepsAlike code n d m p q (reduce_code code k c (n.who p) i) (by_want m.tip d p (wanted code d life i))
-      go Ended life is = subst (λ o. StepsAlike code n d m p q (reduce_state code k c (n.who p) i o) None) (sym is) tt
+      go : (life : Life) → q.life ≡ life → IsNode code n.end (n.who p) q.steps life (c.nodes (n.who p)) → Both (reduce_code code k c (n.who p) i) (by_want m.tip d p (wanted code d life i))
+      go Ended life is = subst (λ o. Both (reduce_state code k c (n.who p) i o) None) (sym is) (tt, tt)
       go (Runs h) life is = run-alike h life is k enough
       go (Serves e s) life is = serve-alike e s life is k
+
+  -- a step by number is the machine's
+  pub step-alike : (k : ℕ) → IsEnough code k (c.nodes (n.who p)) → StepsAlike code n d m p q (reduce_code code k c (n.who p) i) (change_of code d m p q i)
+  step-alike k enough = (both-alike k enough).0
+
+  pub entry-there : (k : ℕ) → IsEnough code k (c.nodes (n.who p)) → (change : Change) → change_of code d m p q i ≡ Some change →
+      (life : Life) (child : Option Life) → IsLifeOf code change.next life → IsChildOf code change.child child → IsEntryOf (after d m p q change life child) change.entry
+  entry-there k enough change e = subst EntryThere e (both-alike k enough).1
 
 -- there are enough instructions for the expressions of a process
 pub enough-there : (code : Code) (n : Naming) (m : Parts) (c : CodeConfiguration) → StandsFor code n m c → (p : ℕ) (q : Proc) → m.process p ≡ Some q → (k : ℕ) × IsEnough code k (c.nodes (n.who p))

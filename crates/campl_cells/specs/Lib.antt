@@ -4,3 +4,4 @@ pub mod Steps
 pub mod Stands
 pub mod Local
 pub mod Starts
+pub mod Runs

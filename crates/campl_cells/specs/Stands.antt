@@ -147,6 +147,16 @@ pub record StandsFor (code : Code) (n : Naming) (m : Parts) (c : CodeConfigurati
 
 -- Steps
 
+-- each number that the entry has is in use
+pub record IsEntryOf (m : Parts) (e : Entry) : Type 0 where
+  pub process : IsSome (m.process e.process)
+  pub end : IfSome e.end (IsEnd m.tip)
+  pub second : IfSome e.second (IsEnd m.tip)
+  pub message : IfSome e.message (MailWithin (IsEnd m.tip))
+  pub child : IfSome e.child (λ i. IsSome (m.process i))
+  pub channel : IfSome e.channel (λ c. IsEnd m.tip (near c) × IsEnd m.tip (far c))
+  pub channel2 : IfSome e.channel2 (λ c. IsEnd m.tip (near c) × IsEnd m.tip (far c))
+
 -- the names of the numbers in use stay
 pub record Grows (n n2 : Naming) (m : Parts) : Type 0 where
   pub who : (i : ℕ) → IsSome (m.process i) → n2.who i ≡ n.who i

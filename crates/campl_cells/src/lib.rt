@@ -5,6 +5,7 @@
 //! - `specs/Wants` says what a process or service does next, read off its part.
 //! - `specs/Steps` says what a step changes, and the parts after it.
 //! - `specs/Stands` says when parts stand for a configuration of the machine, under the machine's names of the numbers.
+//! - `specs/Runs` has whole runs by number.
 //! - `specs/Starts` has the parts at the start.
 //! - `specs/Local` says which parts a step reads and changes.
 //!
@@ -13,4 +14,4 @@
 
 mod laws;
 
-pub use laws::{law_frame, law_local, law_start, law_step};
+pub use laws::{law_frame, law_local, law_runs, law_start, law_step, law_still};
