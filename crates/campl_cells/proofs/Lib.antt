@@ -18,3 +18,4 @@ pub mod Theorem
 pub mod Starting
 pub mod StartNodes
 pub mod GoingOn
+mod Examples

@@ -1,5 +1,5 @@
 -- A step changes its process, the ends in hand and what is born.
-use Rattle.std.proofs.Common.{◌≡◌, ◌≢◌, ◌⊎◌, inl, inr, ℕ, Bool, true, false, List, [], ◌∷◌, ◌++◌, Option, Some, None, option_map, eqb, refl, sym, ap, subst, ◌∙◌, if◌then◌else◌}
+use Rattle.std.proofs.Common.{◌≡◌, ◌≢◌, ◌⊎◌, inl, inr, ℕ, Bool, true, false, List, [], ◌∷◌, ◌++◌, Option, Some, None, option_map, eqb, refl, sym, ap, subst, ◌∙◌, if◌then◌else◌, ap₂}
 use Rattle.campl_machine.specs.Machine.{Lies}
 use Rattle.campl_meaning.specs.States.{Kind}
 use Rattle.campl_code.specs.Instructions.{Code}
@@ -7,7 +7,7 @@ use Rattle.campl_cells.specs.Parts.{Mail, Life, Proc, Tip, Parts, or_bare, or_el
 use Rattle.campl_cells.specs.Wants as w
 use Rattle.campl_cells.specs.Wants.{Drawn, Next, Want, wanted}
 use Rattle.campl_cells.specs.Steps.{Change, borne, sent, moved, looked, looks_in, links_at, linked, peopled, by_want, change_of, after}
-use Rattle.campl_cells.specs.Local.{IsOnTheWay, InHand, IsEndOf, IsNewEnd, ElseStays}
+use Rattle.campl_cells.specs.Local.{IsOnTheWay, InHand, IsEndOf, IsNewEnd, ElseStays, Watches}
 use Rattle.campl_cells.proofs.Puts.{written-else}
 
 lies-append : {A : Type 0} (es fs : List (ℕ × A)) (k : ℕ) → Lies (es ++ fs) k → Lies es k ⊎ Lies fs k
@@ -91,3 +91,25 @@ else-stays code d m p q i change life child e = record {
   process = λ k a b. written-else (peopled d p q life child) m.process k (people-lies d p q life child k a b);
   tips = λ k a b. written-else change.ends m.tip k (λ l. elim (change-lies m.tip d p k (wanted code d q.life i) change e l) [ inl x ↦ a x | inr x ↦ b x ]);
 }
+
+-- What waits
+
+waiting : (tip tip2 : ℕ → Option Tip) (d : Drawn) (p : ℕ) (o : Want) → ((k : ℕ) → Watches o k → tip2 k ≡ tip k) → by_want tip d p o ≡ None → by_want tip2 d p o ≡ None
+waiting tip tip2 d p w.Rests same e = refl
+waiting tip tip2 d p (w.Moves kind end v) same e = absurd (cc e)
+waiting tip tip2 d p (w.Looks kind takes x f) same e = ap (λ t. looks_in p kind takes x f (or_bare t).peer (or_bare t).inbox) (same x refl) ∙ e
+waiting tip tip2 d p (w.Links x y) same e =
+    ap₂ (λ s t. links_at tip2 p x y (or_bare s).peer (or_bare t).peer) (same x (inl refl)) (same y (inr refl)) ∙ go (or_bare (tip x)).peer (or_bare (tip y)).peer e
+  where
+    tests : (x2 y2 : ℕ) (a b : Bool) → (if a then None else if b then None else Some (linked tip p x y x2 y2)) ≡ None → (if a then None else if b then None else Some (linked tip2 p x y x2 y2)) ≡ None
+    tests x2 y2 true b e = refl
+    tests x2 y2 false true e = refl
+    tests x2 y2 false false e = absurd (cc e)
+
+    go : (o r : Option ℕ) → links_at tip p x y o r ≡ None → links_at tip2 p x y o r ≡ None
+    go None r e = refl
+    go (Some x2) None e = refl
+    go (Some x2) (Some y2) e = tests x2 y2 (eqb x y) (eqb x2 y) e
+
+pub still-waits : (code : Code) (d : Drawn) (m m2 : Parts) (p : ℕ) (q : Proc) (i : ℕ) → ((k : ℕ) → Watches (wanted code d q.life i) k → m2.tip k ≡ m.tip k) → change_of code d m p q i ≡ None → change_of code d m2 p q i ≡ None
+still-waits code d m m2 p q i same e = waiting m.tip m2.tip d p (wanted code d q.life i) same e

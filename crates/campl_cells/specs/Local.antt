@@ -16,6 +16,13 @@ InHand tip (Moves kind end v) k = IsOnTheWay tip v.send k
 InHand tip (Looks kind takes e f) k = e ≡ k
 InHand tip (Links x y) k = (x ≡ k) ⊎ (y ≡ k) ⊎ (owner tip x ≡ k) ⊎ (owner tip y ≡ k)
 
+-- the ends on which a step waits, at most two
+abbrev pub Watches : Want → ℕ → Type 0
+Watches Rests k = ⊥
+Watches (Moves kind end v) k = ⊥
+Watches (Looks kind takes e f) k = e ≡ k
+Watches (Links x y) k = (x ≡ k) ⊎ (y ≡ k)
+
 -- an end of one of these channels
 abbrev pub IsEndOf : List ℕ → ℕ → Type 0
 IsEndOf [] k = ⊥

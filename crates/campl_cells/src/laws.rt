@@ -9,12 +9,12 @@ ghost use Rattle.campl_code_bodies.specs.Kept.{Kept};
 ghost use Rattle.campl_code_bodies.specs.Running.{CodeConfiguration, IsEnough, code_start, reduce_code};
 ghost use Rattle.campl_code_bodies.specs.Runs.{CodeGoes};
 ghost use Rattle.campl_cells.specs.Parts.{Life, Parts, Proc};
-ghost use Rattle.campl_cells.specs.Wants.{Drawn};
+ghost use Rattle.campl_cells.specs.Wants.{Drawn, wanted};
 ghost use Rattle.campl_cells.specs.Steps.{Change, Entry, IsStill, KeptAt, Steps, after, change_of};
 ghost use Rattle.campl_cells.specs.Stands.{Grows, IsEntryOf, IsFresh, Naming, StandsFor, StepsAlike};
 ghost use Rattle.campl_cells.specs.Runs.{PartsGo, Turn, named_entries, named_turns};
 ghost use Rattle.campl_cells.specs.Starts.{start_naming, start_parts};
-ghost use Rattle.campl_cells.specs.Local.{ElseStays, SameInHand};
+ghost use Rattle.campl_cells.specs.Local.{ElseStays, SameInHand, Watches};
 
 /// Where parts stand for a configuration, the instructions for each process's expressions are enough from some number on; and
 /// with enough of them a process or service, by its number, has a next step exactly where the machine has a reduction of its
@@ -51,7 +51,13 @@ pub fn law_local()
     ensures { (code : Code) (d : Drawn) (m m2 : Parts) (p : ℕ) (q : Proc) (i : ℕ) → SameInHand code d m m2 p q i → change_of code d m2 p q i ≡ change_of code d m p q i }
 {}
 
-/// It leaves all parts but its process, the ends in hand and what is born.
+/// Who has no next step waits: it has none either as long as the ends on which it waits, at most two, stay as they are.
+pub fn law_waits()
+    ensures { (code : Code) (d : Drawn) (m m2 : Parts) (p : ℕ) (q : Proc) (i : ℕ) → ((k : ℕ) → Watches (wanted code d q.life i) k → m2.tip k ≡ m.tip k)
+        → change_of code d m p q i ≡ None → change_of code d m2 p q i ≡ None }
+{}
+
+/// A step leaves all parts but its process, the ends in hand and what is born.
 pub fn law_frame()
     ensures { (code : Code) (d : Drawn) (m : Parts) (p : ℕ) (q : Proc) (i : ℕ) (change : Change) (life : Life) (child : Option Life)
         → change_of code d m p q i ≡ Some change → ElseStays code d m p q i (after d m p q change life child) }

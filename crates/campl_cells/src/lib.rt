@@ -14,4 +14,4 @@
 
 mod laws;
 
-pub use laws::{law_frame, law_local, law_runs, law_start, law_step, law_still};
+pub use laws::{law_frame, law_local, law_runs, law_start, law_step, law_still, law_waits};
