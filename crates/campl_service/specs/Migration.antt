@@ -6,14 +6,10 @@ use Rattle.campl_service.specs.declared.entry.Version.TheVariants.{One, Two}
 use Rattle.campl_service.specs.declared.entry.Entry.{Entry}
 use Rattle.campl_service.specs.declared.fault.ScriptFault.{ScriptFault}
 use Rattle.campl_service.specs.Scripts.{Lines}
-use Rattle.campl_service.specs.Reading.{Said, colon_at, judged_line, is_version_line, lines_of}
-use Rattle.campl_migrate.specs.declared.limits.TheConstants.{NAME_MAX, SCRIPT_BYTES_MAX}
-use Rattle.campl_migrate.specs.declared.fault.MigrateFault.{MigrateFault}
-use Rattle.campl_migrate.specs.declared.fault.MigrateFault.TheVariants.{Script, TooLong, OutOfMemory}
-
--- every name that a channel can have is known
-abbrev pub place_of_any : List ℕ → Option ℕ
-place_of_any name = if nat_le (length name) NAME_MAX then Some 0 else None
+use Rattle.campl_service.specs.Reading.{Said, colon_at, place_of_any, judged_line, is_version_line, lines_of}
+use Rattle.campl_service.specs.declared.limits.TheConstants.{SCRIPT_BYTES_MAX}
+use Rattle.campl_service.specs.declared.fault.MigrateFault.{MigrateFault}
+use Rattle.campl_service.specs.declared.fault.MigrateFault.TheVariants.{Script, TooLong, OutOfMemory}
 
 -- what stands before the first colon
 abbrev pub name_of : List ℕ → List ℕ

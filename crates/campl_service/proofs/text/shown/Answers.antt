@@ -2,8 +2,8 @@ use Rattle.std.proofs.Common.{◌∙◌, ◌++◌, ap, sym, subst, ◌≡◌, tr
 use Rattle.std.specs.Str.{IsUtf8}
 use Rattle.campl_value.specs.Shown.{shown_bytes}
 use Rattle.std.specs.Prelude.{chars}
-use Rattle.campl_migrate.proofs.Printed.{shown_is_utf8}
-use Rattle.campl_migrate.proofs.text.shown.Goals as goal
+use Rattle.campl_service.proofs.Printed.{shown_is_utf8}
+use Rattle.campl_service.proofs.text.shown.Goals as goal
 
 -- what is printed of a text is a text
 pub unreachable-requires : goal.unreachable-requires

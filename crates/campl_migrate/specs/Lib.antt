@@ -1,3 +1,0 @@
-pub mod Migration
-pub mod Writing
-pub mod Unescaping
