@@ -13,11 +13,11 @@ use Rattle.campl_service.specs.declared.entry.Entry.{Entry}
 use Rattle.campl_service.specs.declared.fault.ScriptFault.{ScriptFault}
 use Rattle.campl_service.specs.declared.fault.ScriptFault.TheVariants.{UnknownChannel, NoColon, LineTooLong, TooManyLines, BadEscape, OutOfMemory}
 use Rattle.campl_service.specs.Scripts.{Lines}
-use Rattle.campl_service.specs.Reading.{Said, Sayings, and_then, most_lines, judged_line, judged_lines, judged, lines_of, is_version_line, scripts_of, with_lines, place_of}
-use Rattle.campl_migrate.specs.declared.limits.TheConstants.{SCRIPT_BYTES_MAX}
-use Rattle.campl_migrate.specs.declared.fault.MigrateFault.{MigrateFault}
-use Rattle.campl_migrate.specs.declared.fault.MigrateFault.TheVariants.{TooLong}
-use Rattle.campl_migrate.specs.Migration.{Writing, name_of, place_of_any, rewritten, with_end, then_write, migrated_line, migrated_lines, migrated_behind, migrated, within, migration}
+use Rattle.campl_service.specs.Reading.{Said, Sayings, and_then, most_lines, judged_line, judged_lines, judged, lines_of, is_version_line, scripts_of, with_lines, place_of, place_of_any}
+use Rattle.campl_service.specs.declared.limits.TheConstants.{SCRIPT_BYTES_MAX}
+use Rattle.campl_service.specs.declared.fault.MigrateFault.{MigrateFault}
+use Rattle.campl_service.specs.declared.fault.MigrateFault.TheVariants.{TooLong}
+use Rattle.campl_service.specs.Migration.{Writing, name_of, rewritten, with_end, then_write, migrated_line, migrated_lines, migrated_behind, migrated, within, migration}
 use Rattle.campl_migrate_laws.specs.Kept.{Same, SameScripts, begins_with_version, moved_by}
 use Rattle.campl_migrate_laws.proofs.Pieces.{in_line, in_lines, lines_in_line, take_in_line, printed_in_line, written_line_found}
 use Rattle.campl_migrate_laws.proofs.Unshown.{text_printed}
@@ -57,7 +57,6 @@ outcome_same (Some c) by n text = refl
 
 loud_again : (v : Version) (n : ℕ) (line text : List ℕ) → in_line line ≡ true → Speaks v n line text → Again v n line (new_line line text)
 loud_again v n line text one s =
-    let m : ℕ = n + moves v in
     let new : Speaks Two (n + moves v) (new_line line text) text = new_speaks v n (n + moves v) line text s (few_again v n s.few) in
     let name : name_of (new_line line text) ≡ name_of line = same_name v n line text s in
     let named : in_line (name_of line) ≡ true = take_in_line _ line one in

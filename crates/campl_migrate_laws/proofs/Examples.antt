@@ -1,7 +1,7 @@
 -- Worked examples.
 use Rattle.std.proofs.Common.{◌≡◌, refl, codes, Ok, Err, ◌++◌, ◌∷◌, []}
 use Rattle.campl_service.specs.declared.fault.ScriptFault.TheVariants.{NoColon, UnknownChannel}
-use Rattle.campl_migrate.specs.Migration.{migrated}
+use Rattle.campl_service.specs.Migration.{migrated}
 use Rattle.campl_migrate_laws.specs.Kept.{moved_by}
 
 -- in version 1 a backslash stands for itself

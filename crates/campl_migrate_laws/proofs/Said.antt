@@ -4,15 +4,14 @@ use Rattle.std.specs.Prelude.{◌==◌, ◌⊎◌, inl, inr, not, cond, nat_le, 
 use Rattle.std.specs.List.{prefix_len}
 use Rattle.std.proofs.lemmas.Bool.Decides.{nat_tests}
 use Rattle.campl_value.specs.Shown.{shown_text}
-use Rattle.campl_service.specs.declared.limits.TheConstants.{TEXT_MAX}
+use Rattle.campl_service.specs.declared.limits.TheConstants.{TEXT_MAX, NAME_MAX}
 use Rattle.campl_service.specs.declared.entry.Version.{Version}
 use Rattle.campl_service.specs.declared.entry.Version.TheVariants.{One, Two}
 use Rattle.campl_service.specs.declared.entry.Entry.{Entry}
 use Rattle.campl_service.specs.declared.fault.ScriptFault.TheVariants.{UnknownChannel, LineTooLong, NoColon, TooManyLines}
 use Rattle.campl_service.specs.Escapes.{unescaped}
-use Rattle.campl_service.specs.Reading.{Said, most_lines, most_characters, colon_at, without_space, text_meant, judged_text, judged_channel, judged_content, judged_line}
-use Rattle.campl_migrate.specs.declared.limits.TheConstants.{NAME_MAX}
-use Rattle.campl_migrate.specs.Migration.{name_of, place_of_any, rewritten}
+use Rattle.campl_service.specs.Reading.{Said, most_lines, most_characters, colon_at, without_space, text_meant, judged_text, judged_channel, judged_content, judged_line, place_of_any}
+use Rattle.campl_service.specs.Migration.{name_of}
 use Rattle.campl_migrate_laws.proofs.Unshown.{read_back, text_short}
 
 abbrev pub entry : List ℕ → Entry
@@ -119,9 +118,6 @@ colon_found : (line rest : List ℕ) → prefix_len before_colon (take (prefix_l
 colon_found [] rest = refl
 colon_found (c ∷ cs) rest = by_test (c == 58) refl (colon_found cs rest)
   where
-    n : ℕ
-    n = prefix_len before_colon cs
-
     one_more : 1 + prefix_len before_colon cs ≡ suc (prefix_len before_colon cs)
     one_more = omega arith
 

@@ -3,7 +3,7 @@ ghost use Rattle.std.specs.Prelude.{◌≡◌, ℕ, List, Ok, chars};
 ghost use Rattle.std.specs.Str.{IsUtf8};
 ghost use Rattle.campl_tree.specs.declared.service.ServiceName.{ServiceName};
 ghost use Rattle.campl_service.specs.Reading.{scripts_of};
-ghost use Rattle.campl_migrate.specs.Migration.{migrated, migration};
+ghost use Rattle.campl_service.specs.Migration.{migrated, migration};
 ghost use Rattle.campl_migrate_laws.specs.Kept.{SameScripts, moved_by};
 
 /// For every heading the migrated script has the scripts that the script has, or both name a channel that the heading doesn't
