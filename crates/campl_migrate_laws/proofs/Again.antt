@@ -1,6 +1,6 @@
 -- The migrated script says the same, and is migrated to itself.
-use Rattle.std.proofs.Common.{◌≡◌, refl, sym, ap, ◌∙◌, subst, ℕ, suc, ◌+◌, arith, Bool, true, false, List, [], ◌∷◌, ◌++◌, length, replicate, Option, Some, None, Result, Ok, Err, append_assoc}
-use Rattle.std.specs.Prelude.{◌⊎◌, inl, inr, ◌&&◌, nat_le, nat_lt, if◌then◌else◌, codes, chars, encode_utf8_all}
+use Rattle.std.proofs.Common.{◌≡◌, inl, inr, refl, sym, ap, ◌∙◌, subst, ℕ, suc, ◌+◌, arith, Bool, true, false, List, [], ◌∷◌, ◌++◌, length, replicate, Option, Some, None, Result, Ok, Err, append_assoc}
+use Rattle.std.specs.Prelude.{nat_le, nat_lt, if◌then◌else◌, codes, chars, encode_utf8_all}
 use Rattle.std.specs.Str.{IsUtf8}
 use Rattle.std.proofs.lemmas.Str.{chars_from_encodes}
 use Rattle.std.proofs.lemmas.Bool.{and_parts, and_from}
@@ -10,18 +10,20 @@ use Rattle.campl_tree.specs.declared.service.ServiceName.{ServiceName}
 use Rattle.campl_service.specs.declared.entry.Version.{Version}
 use Rattle.campl_service.specs.declared.entry.Version.TheVariants.{One, Two}
 use Rattle.campl_service.specs.declared.entry.Entry.{Entry}
-use Rattle.campl_service.specs.declared.fault.ScriptFault.{ScriptFault}
 use Rattle.campl_service.specs.declared.fault.ScriptFault.TheVariants.{UnknownChannel, NoColon, LineTooLong, TooManyLines, BadEscape, OutOfMemory}
 use Rattle.campl_service.specs.Scripts.{Lines}
 use Rattle.campl_service.specs.Reading.{Said, Sayings, and_then, most_lines, judged_line, judged_lines, judged, lines_of, is_version_line, scripts_of, with_lines, place_of, place_of_any}
 use Rattle.campl_service.specs.declared.limits.TheConstants.{SCRIPT_BYTES_MAX}
 use Rattle.campl_service.specs.declared.fault.MigrateFault.{MigrateFault}
 use Rattle.campl_service.specs.declared.fault.MigrateFault.TheVariants.{TooLong}
-use Rattle.campl_service.specs.Migration.{Writing, name_of, rewritten, with_end, then_write, migrated_line, migrated_lines, migrated_behind, migrated, within, migration}
+use Rattle.campl_service.specs.Migration.{Writing, name_of, rewritten, with_end, then_write, migrated_line, migrated_lines, migrated_behind, migrated, migration}
 use Rattle.campl_migrate_laws.specs.Kept.{Same, SameScripts, begins_with_version, moved_by}
 use Rattle.campl_migrate_laws.proofs.Pieces.{in_line, in_lines, lines_in_line, take_in_line, printed_in_line, written_line_found}
 use Rattle.campl_migrate_laws.proofs.Unshown.{text_printed}
-use Rattle.campl_migrate_laws.proofs.Said.{Speaks, View, viewed, entry, outcome, line_says, new_line, same_name, new_speaks}
+use Rattle.campl_migrate_laws.proofs.Said.{Speaks, View, viewed, outcome, line_says, new_line, same_name, new_speaks}
+
+abbrev done : List ℕ → Writing
+done cs = Ok cs
 
 -- by how many a line's number grows
 abbrev moves : Version → ℕ
@@ -41,10 +43,15 @@ record Again (v : Version) (n : ℕ) (line w : List ℕ) : Type 0 where
   again : migrated_line Two (n + moves v) w ≡ Ok (w ++ 10 ∷ [])
 
 silent_again : (v : Version) (n : ℕ) → nat_lt (most_lines v) n ≡ false → Again v n [] []
-silent_again v n few = record {
+silent_again One n few = record {
   found = λ rest. refl;
-  same = λ place. rw (few, few_again v n few) refl;
-  again = rw (few_again v n few) refl;
+  same = λ place. rw (few, few_again One n few) refl;
+  again = rw (few_again One n few) refl;
+}
+silent_again Two n few = record {
+  found = λ rest. refl;
+  same = λ place. rw (few, few_again Two n few) refl;
+  again = rw (few_again Two n few) refl;
 }
 
 in_line_append : (xs ys : List ℕ) → in_line xs ≡ true → in_line ys ≡ true → in_line (xs ++ ys) ≡ true
@@ -125,7 +132,7 @@ more_again v n line w more behind one rest =
       again =
           ap (migrated_lines Two (n + moves v)) found
           ∙ (ap (λ first. then_write first (migrated_lines Two (suc (n + moves v)) (lines_of behind))) one.again
-          ∙ (ap (then_write (Ok (w ++ 10 ∷ []))) again ∙ ap (λ (x : List ℕ). Ok {E = ScriptFault} x) (append_assoc w (10 ∷ []) behind)));
+          ∙ (ap (then_write (Ok (w ++ 10 ∷ []))) again ∙ ap done (append_assoc w (10 ∷ []) behind)));
     }
 
 all_again : (v : Version) (n : ℕ) (lines : Lines) (body : List ℕ) → in_lines lines ≡ true → migrated_lines v n lines ≡ Ok body → AllAgain v n lines body
@@ -228,5 +235,5 @@ stays_as_it_is script result utf8 h = go (result_is script result utf8 h) (bytes
   where
     go : (body : List ℕ) × ((migrated_behind (lines_of (chars script)) ≡ Ok body) × (version_line ++ body ≡ chars result)) → (new : List ℕ) × ((migrated (chars script) ≡ Ok new) × (encode_utf8_all new ≡ result)) → migration (migrated (chars result)) ≡ Ok result
     go (body, (r, e)) (new, (w, b)) =
-        let as_before : migrated (chars result) ≡ Ok new = subst (λ cs. migrated cs ≡ Ok cs) e (itself_again (chars script) body r) ∙ ap (λ (x : List ℕ). Ok {E = ScriptFault} x) (sym (chars_from_encodes new result utf8 b)) in
+        let as_before : migrated (chars result) ≡ Ok new = subst (λ cs. migrated cs ≡ Ok cs) e (itself_again (chars script) body r) ∙ ap done (sym (chars_from_encodes new result utf8 b)) in
         ap migration as_before ∙ (sym (ap migration w) ∙ h)

@@ -1,6 +1,6 @@
 -- Worked examples.
-use Rattle.std.proofs.Common.{◌≡◌, refl, codes, Ok, Err, ◌++◌, ◌∷◌, []}
-use Rattle.campl_service.specs.declared.fault.ScriptFault.TheVariants.{NoColon, UnknownChannel}
+use Rattle.std.proofs.Common.{◌≡◌, refl, codes, Ok, Err, []}
+use Rattle.campl_service.specs.declared.fault.ScriptFault.TheVariants.{NoColon}
 use Rattle.campl_service.specs.Migration.{migrated}
 use Rattle.campl_migrate_laws.specs.Kept.{moved_by}
 

@@ -1,12 +1,12 @@
 -- What an accepted line says, under any names, and that the line that is written says the same.
-use Rattle.std.proofs.Common.{◌≡◌, refl, sym, ap, ◌∙◌, ℕ, zero, suc, ◌+◌, ◌*◌, ◌<◌, ◌≤◌, arith, Bool, true, false, List, [], ◌∷◌, ◌++◌, length, take, drop, Option, Some, None, Result, Ok, Err, length-append, length-take}
-use Rattle.std.specs.Prelude.{◌==◌, ◌⊎◌, inl, inr, not, cond, nat_le, nat_lt, if◌then◌else◌, codes}
+use Rattle.std.proofs.Common.{◌≡◌, inl, inr, refl, sym, ap, ◌∙◌, ℕ, zero, suc, ◌+◌, ◌<◌, ◌≤◌, arith, Bool, true, false, List, [], ◌∷◌, ◌++◌, length, take, drop, Option, Some, None, Ok, Err, length-append}
+use Rattle.std.specs.Prelude.{◌==◌, ◌⊎◌, not, cond, nat_le, nat_lt, if◌then◌else◌, codes}
 use Rattle.std.specs.List.{prefix_len}
 use Rattle.std.proofs.lemmas.Bool.Decides.{nat_tests}
 use Rattle.campl_value.specs.Shown.{shown_text}
 use Rattle.campl_service.specs.declared.limits.TheConstants.{TEXT_MAX, NAME_MAX}
 use Rattle.campl_service.specs.declared.entry.Version.{Version}
-use Rattle.campl_service.specs.declared.entry.Version.TheVariants.{One, Two}
+use Rattle.campl_service.specs.declared.entry.Version.TheVariants.{Two}
 use Rattle.campl_service.specs.declared.entry.Entry.{Entry}
 use Rattle.campl_service.specs.declared.fault.ScriptFault.TheVariants.{UnknownChannel, LineTooLong, NoColon, TooManyLines}
 use Rattle.campl_service.specs.Escapes.{unescaped}

@@ -1,14 +1,13 @@
 -- What is printed of a text is read back as the text.
-use Rattle.std.proofs.Common.{◌≡◌, refl, sym, ap, ◌∙◌, subst, ℕ, ◌+◌, ◌*◌, ◌/◌, ◌%◌, ◌<◌, ◌≤◌, arith, Bool, true, false, List, [], ◌∷◌, ◌++◌, length, Some, append_assoc}
-use Rattle.std.specs.Prelude.{◌==◌, ◌&&◌, ◌||◌, nat_le, nat_lt, if◌then◌else◌, codes, flat_map}
-use Rattle.std.specs.List.{list_all}
+use Rattle.std.proofs.Common.{◌≡◌, refl, ap, ◌∙◌, ℕ, ◌+◌, ◌*◌, ◌/◌, ◌%◌, ◌<◌, ◌≤◌, arith, Bool, true, false, List, [], ◌∷◌, ◌++◌, length, Some, length-append}
+use Rattle.std.specs.Prelude.{◌==◌, nat_lt, if◌then◌else◌, codes}
 use Rattle.std.specs.Fmt.{digits, digit_glyph}
 use Rattle.std.proofs.lemmas.Fmt.{hex_one_digit, hex_two_digits}
 use Rattle.std.proofs.lemmas.Bool.{and_from, and_parts}
 use Rattle.std.proofs.lemmas.Bool.Decides.{nat_tests}
 use lib.Utf8.{scalar}
 use Rattle.campl_value.specs.Shown.{has_escape, escape_of, shown_character, shown_text}
-use Rattle.campl_service.specs.Escapes.{unescaped, before, numbered, is_hex_digit, hex_digit, hex_value, character_of, character_named}
+use Rattle.campl_service.specs.Escapes.{unescaped, before, numbered, is_hex_digit, hex_digit, character_of}
 use Rattle.campl_migrate_laws.proofs.Pieces.{printed, all_printed}
 
 -- ---- digits
@@ -31,21 +30,30 @@ low_character c h = rw low refl
     low : scalar c ≡ true
     low = grind (arith, nat_tests)
 
+-- a digit is read behind those before it
+read_digit : (ds : List ℕ) (d : ℕ) (rest : List ℕ) → d < 16 → numbered ds (digit_glyph false d ∷ rest) ≡ numbered (ds ++ digit_glyph false d ∷ []) rest
+read_digit ds d rest h = rw (no_brace d h, is_hex d h) refl
+
 -- what is behind `\u{`
 read_number : (c : ℕ) (rest : List ℕ) → c < 128 → numbered [] ((digits 16 false c ++ codes "}") ++ rest) ≡ before (Some c) (unescaped rest)
 read_number c rest h = by_test (nat_lt c 16) refl
   where
+    named : (n : ℕ) → n ≡ c → before (character_of n) (unescaped rest) ≡ before (Some c) (unescaped rest)
+    named n e = ap (λ o. before o (unescaped rest)) (ap character_of e ∙ low_character c h)
+
     by_test : (b : Bool) → nat_lt c 16 ≡ b → numbered [] ((digits 16 false c ++ codes "}") ++ rest) ≡ before (Some c) (unescaped rest)
     by_test true e =
         let low : c < 16 = grind (arith, nat_tests) in
         let value : 0 * 16 + hex_digit (digit_glyph false c) ≡ c = omega (arith, its_value c low) in
-        rw (hex_one_digit false c low, no_brace c low, is_hex c low) (ap (λ o. before o (unescaped rest)) (ap character_of value ∙ low_character c h))
+        rw (hex_one_digit false c low) (read_digit [] c (125 ∷ rest) low ∙ named (0 * 16 + hex_digit (digit_glyph false c)) value)
     by_test false e =
         let high : 16 ≤ c = grind (arith, nat_tests) in
         let one : c / 16 < 16 = omega arith in
         let two : c % 16 < 16 = omega arith in
+        let whole : ℕ = (0 * 16 + hex_digit (digit_glyph false (c / 16))) * 16 + hex_digit (digit_glyph false (c % 16)) in
         let value : (0 * 16 + hex_digit (digit_glyph false (c / 16))) * 16 + hex_digit (digit_glyph false (c % 16)) ≡ c = omega (arith, its_value (c / 16) one, its_value (c % 16) two) in
-        rw (hex_two_digits false c high (omega arith), no_brace (c / 16) one, is_hex (c / 16) one, no_brace (c % 16) two, is_hex (c % 16) two) (ap (λ o. before o (unescaped rest)) (ap character_of value ∙ low_character c h))
+        rw (hex_two_digits false c high (omega arith))
+        (read_digit [] (c / 16) (digit_glyph false (c % 16) ∷ 125 ∷ rest) one ∙ (read_digit (digit_glyph false (c / 16) ∷ []) (c % 16) (125 ∷ rest) two ∙ named whole value))
 
 -- ---- one character
 
