@@ -1,5 +1,5 @@
 -- The four ways in which the command ends.
-use Rattle.std.proofs.Common.{◌≡◌, ◌≢◌, ◌<◌, ℕ, ◌+◌, List, [], ◌∷◌, arith, inl, inr, ap, ap₂, sym, subst, ◌∙◌, map}
+use Rattle.std.proofs.Common.{refl, ◌≡◌, ◌<◌, ℕ, ◌+◌, List, [], ◌∷◌, arith, inl, inr, ap, ap₂, sym, subst, ◌∙◌, map}
 use Rattle.std.specs.Prelude.{All}
 use Rattle.std.specs.List.{fold}
 use Rattle.std.proofs.lemmas.List.{length-map}
@@ -12,12 +12,14 @@ use Rattle.campl_config.specs.declared.entry.Entry.{Entry}
 use Rattle.campl_config.specs.Journal.{plain_entries, weight_of}
 use Rattle.campl_cli.specs.declared.performance.Performance.{Performance}
 use Rattle.campl_cli.specs.declared.refusal.Refusal.{Refusal}
-use Rattle.campl_cli.specs.declared.refusal.Refusal.TheVariants.{BadCommandLine, ReadFault, TooLong, NotUtf8, Source, NotBuilt, OutOfMemory}
+use Rattle.campl_cli.specs.declared.refusal.Refusal.TheVariants.{BadCommandLine, ReadFault, TooLong, NotUtf8, Source, NotBuilt, Script, OutOfMemory}
 use Rattle.campl_cli.specs.declared.report.Report.{Report}
 use Rattle.campl_cli.specs.Form.{Prints}
 use Rattle.campl_cli.specs.Refusals.{Files, IsDue, IsRefusedOrder, IsRefusedSource, IsSource, TakesMemory}
 use Rattle.campl_orders.specs.Orders.{IsOrder, PlainOrder, run, check, code, generate, migrate}
-use Rattle.campl_cli.specs.Performance.{IsAcceptance, IsDone, IsPerformance, IsPrinted}
+use Rattle.campl_pipeline.specs.Source.{generated_source}
+use Rattle.campl_cli.specs.Told.{MigratesFile, accepted_line}
+use Rattle.campl_cli.specs.Performance.{IsTelling, IsDone, IsPerformance, IsPrinted}
 use Rattle.campl_cli.specs.Answer.{Stream, HadNothing, HasNoRun, HasRun, Does, RunsFile, IsAnswer, IsTold, IsRefused, printed, step_budget}
 use Rattle.campl_cli.proofs.Printing.{Comes, printing-runs}
 
@@ -44,15 +46,16 @@ no_words_due (run file script steps workers) files is = not_bad _ files file is
 no_words_due (check file) files is = not_bad _ files file is
 no_words_due (code file) files is = not_bad _ files file is
 no_words_due (generate stages workers) files is = let no : ⊥ = cc in no
-no_words_due (migrate file) files is = let no : ⊥ = cc in no
+no_words_due (migrate file) files (inl unread) = unread
+no_words_due (migrate file) files (inr (text, has, unmigrated)) = unmigrated
 
--- want of memory comes freely, but where no source is read
-memory_comes : (order : PlainOrder) (files : Files) (refusal : Refusal) → refusal ≢ NotBuilt → IsRefusedOrder order files refusal → IsRefusedOrder order files OutOfMemory
-memory_comes (run file script steps workers) files refusal n is = inl tt
-memory_comes (check file) files refusal n is = inl tt
-memory_comes (code file) files refusal n is = inl tt
-memory_comes (generate stages workers) files refusal n is = absurd (n is)
-memory_comes (migrate file) files refusal n is = absurd (n is)
+-- want of memory comes freely
+memory_comes : (order : PlainOrder) (files : Files) → IsRefusedOrder order files OutOfMemory
+memory_comes (run file script steps workers) files = inl tt
+memory_comes (check file) files = inl tt
+memory_comes (code file) files = inl tt
+memory_comes (generate stages workers) files = refl
+memory_comes (migrate file) files = inl tt
 
 -- an order's refusal is one of the command
 pub order_due : (words : List (List ℕ)) (files : Files) (order : PlainOrder) (refusal : Refusal) → IsOrder words order → IsRefusedOrder order files refusal → IsDue words files refusal
@@ -62,6 +65,7 @@ order_due words files order TooLong is refused = (order, is, refused)
 order_due words files order (NotUtf8 at) is refused = (order, is, refused)
 order_due words files order (Source fault) is refused = (order, is, refused)
 order_due words files order NotBuilt is refused = (order, is, refused)
+order_due words files order (Script why) is refused = (order, is, refused)
 order_due words files order OutOfMemory is refused = (order, is, refused)
 
 module _ (words : List (List ℕ)) (files : Files) (out err : Stream) (report : Report) where
@@ -92,19 +96,20 @@ module _ (words : List (List ℕ)) (files : Files) (out err : Stream) (report : 
       prints = output_is;
     }
 
-  -- nothing ran where a source was checked
-  no_run : (performance : Performance) → IsAcceptance performance → IsPrinted performance out err report → HasNoRun report
-  no_run performance done told =
+  -- nothing ran where something is told alone
+  no_run : (output : List ℕ) (performance : Performance) → IsTelling output performance → IsPrinted performance out err report → HasNoRun report
+  no_run output performance done told =
       let none : report.journal.entries ≡ [] = told.entries ∙ done.entries in
       let steps : report.steps ≡ weight_of performance.journal.entries = told.steps in
       record { entries = none; steps = rw done.entries at steps; ended = told.ended ∙ done.ended }
 
   does : (order : PlainOrder) (performance : Performance) → IsDone order files performance → IsPrinted performance out err report → Does order files report (performance.output.items)
   does (run file script steps workers) performance (so_far, (p, accepted, done)) told = (so_far, runs_file p performance done told file accepted)
-  does (check file) performance (accepted, done) told = record { accepted = accepted; no_run = no_run performance done told; tells = done.output }
+  does (check file) performance (accepted, done) told = (no_run accepted_line performance done told, accepted, done.told)
   does (code file) performance done told = absurd done
-  does (generate stages workers) performance done told = absurd done
-  does (migrate file) performance done told = absurd done
+  does (generate stages workers) performance done told = (no_run (generated_source stages) performance done told, done.told)
+  does (migrate file) performance (output, migrates, done) told =
+      (no_run output performance done told, subst (λ x. MigratesFile files file x) (sym done.told) migrates)
 
   -- what is done is printed or couldn't be
   pub answers_done : (order : PlainOrder) (performance : Performance) → IsOrder words order → IsDone order files performance → IsPrinted performance out err report
@@ -139,8 +144,9 @@ module _ (words : List (List ℕ)) (files : Files) (out err : Stream) (report : 
 
   -- where a line takes memory, the words are an order
   starved : (refusal : Refusal) → IsDue words files refusal → TakesMemory refusal → IsDue words files OutOfMemory
-  starved (NotUtf8 at) (order, is, refused) takes = (order, is, memory_comes order files (NotUtf8 at) (λ e. let no : ⊥ = cc in no) refused)
-  starved (Source fault) (order, is, refused) takes = (order, is, memory_comes order files (Source fault) (λ e. let no : ⊥ = cc in no) refused)
+  starved (NotUtf8 at) (order, is, refused) takes = (order, is, memory_comes order files)
+  starved (Source fault) (order, is, refused) takes = (order, is, memory_comes order files)
+  starved (Script why) (order, is, refused) takes = (order, is, memory_comes order files)
   starved BadCommandLine due takes = absurd takes
   starved TooLong due takes = absurd takes
   starved NotBuilt due takes = absurd takes

@@ -1,5 +1,5 @@
 -- What the command answers, and what it has written by then.
-use Rattle.std.specs.Prelude.{◌≡◌, ◌≢◌, ◌≤◌, ℕ, ◌⊎◌, true, List, [], ◌∷◌, ◌++◌, Option, Some, None, codes}
+use Rattle.std.specs.Prelude.{◌≡◌, ◌≢◌, ◌≤◌, ℕ, ◌⊎◌, true, List, [], ◌∷◌, ◌++◌, Option, Some, None}
 use Rattle.std.specs.Io.KnownBytes.{Appends}
 use Rattle.campl_text.specs.Counts.{Rose}
 use Rattle.campl_first_path.specs.Reductions.{Configuration}
@@ -15,6 +15,8 @@ use Rattle.campl_cli.specs.declared.report.Ended.TheVariants.{Finished}
 use Rattle.campl_cli.specs.Form.{Prints}
 use Rattle.campl_cli.specs.Printing.{source_of}
 use Rattle.campl_cli.specs.Refusals.{Files, IsSource, IsAcceptedFile, IsDue, TakesMemory, runs, status_of, line_of, write_fault_line}
+use Rattle.campl_pipeline.specs.Source.{generated_source}
+use Rattle.campl_cli.specs.Told.{MigratesFile, accepted_line}
 use Rattle.campl_orders.specs.Orders.{IsOrder, PlainOrder, run, check, code, generate, migrate}
 
 -- what a stream has had before and after the call, where it tells it, and its counts of faults
@@ -66,10 +68,6 @@ pub record HasNoRun (report : Report) : Type 0 where
 abbrev pub printed : Prints → Report → Configuration → List ℕ
 printed p report last = output_of ((p.console, transcript_of last 0) ∷ []) e.Finished [] report.steps
 
--- what the check of an accepted source prints
-abbrev pub accepted_line : List ℕ
-accepted_line = codes "accepted" ++ (10 ∷ [])
-
 -- a file's source is run, and prints this
 pub record RunsFile (files : Files) (file : List ℕ) (report : Report) (output : List ℕ) : Type 0 where
   pub source : Prints
@@ -78,19 +76,13 @@ pub record RunsFile (files : Files) (file : List ℕ) (report : Report) (output 
   pub run : HasRun source report last
   pub prints : output ≡ printed source report last
 
--- a file's source is accepted, which this output tells
-pub record ChecksFile (files : Files) (file : List ℕ) (report : Report) (output : List ℕ) : Type 0 where
-  pub accepted : IsAcceptedFile files file
-  pub no_run : HasNoRun report
-  pub tells : output ≡ accepted_line
-
 -- what each order does that isn't refused
 abbrev pub Does : PlainOrder → Files → Report → (output : List ℕ) → Type 0
 Does (run file script steps workers) files report output = (runs script steps ≡ true) × RunsFile files file report output
-Does (check file) files report output = ChecksFile files file report output
+Does (check file) files report output = HasNoRun report × IsAcceptedFile files file × (output ≡ accepted_line)
 Does (code file) files report output = ⊥
-Does (generate stages workers) files report output = ⊥
-Does (migrate file) files report output = ⊥
+Does (generate stages workers) files report output = HasNoRun report × (output ≡ generated_source stages)
+Does (migrate file) files report output = HasNoRun report × MigratesFile files file output
 
 -- it was done, and its output is written
 pub record Did (words : List (List ℕ)) (files : Files) (out err : Stream) (report : Report) : Type 0 where

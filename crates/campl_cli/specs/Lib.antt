@@ -2,6 +2,8 @@ pub mod Form
 pub mod Faults
 pub mod Source
 pub mod Printing
+pub mod Scripts
 pub mod Refusals
+pub mod Told
 pub mod Answer
 pub mod Performance

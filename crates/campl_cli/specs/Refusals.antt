@@ -6,8 +6,10 @@ use Rattle.campl_text.specs.Reading.{IsReading, IsTextWithin}
 use Rattle.campl_text.specs.declared.reading.TextFault.TheVariants as t
 use Rattle.campl_tree.specs.declared.decl.Program.{Program}
 use Rattle.campl_cli.specs.declared.refusal.Refusal.{Refusal}
-use Rattle.campl_cli.specs.declared.refusal.Refusal.TheVariants.{BadCommandLine, ReadFault, TooLong, NotUtf8, Source, NotBuilt, OutOfMemory}
+use Rattle.campl_cli.specs.declared.refusal.Refusal.TheVariants.{BadCommandLine, ReadFault, TooLong, NotUtf8, Source, NotBuilt, Script, OutOfMemory}
 use Rattle.campl_cli.specs.Faults.{message_of_fault}
+use Rattle.campl_cli.specs.declared.script.ScriptRefusal.TheVariants as script
+use Rattle.campl_cli.specs.Scripts.{IsUnmigrated, ScriptTakesMemory, message_of_script, script_limit}
 use Rattle.campl_cli.specs.Form.{Prints, IsFormOf}
 use Rattle.campl_cli.specs.Source.{IsAcceptedAs, IsAcceptedText, IsRefusedFor, IsSourceFault}
 use Rattle.campl_orders.specs.Orders.{IsOrder, PlainOrder, run, check, code, generate, migrate}
@@ -22,6 +24,7 @@ status_of TooLong = 3
 status_of (NotUtf8 at) = 3
 status_of (Source fault) = 3
 status_of NotBuilt = 3
+status_of (Script why) = 4
 status_of ReadFault = 5
 status_of OutOfMemory = 7
 
@@ -31,6 +34,7 @@ message_of TooLong = codes "source is longer than 1048576 bytes"
 message_of (NotUtf8 at) = codes "source isn't UTF-8 at byte " ++ decimal at
 message_of (Source fault) = message_of_fault fault
 message_of NotBuilt = codes "E60 NotBuilt at 1:1"
+message_of (Script why) = message_of_script why
 message_of ReadFault = codes "read fault"
 message_of OutOfMemory = codes "out of memory"
 
@@ -45,6 +49,7 @@ TakesMemory (Source fault) = ⊤
 TakesMemory BadCommandLine = ⊥
 TakesMemory TooLong = ⊥
 TakesMemory NotBuilt = ⊥
+TakesMemory (Script why) = ScriptTakesMemory why
 TakesMemory ReadFault = ⊥
 TakesMemory OutOfMemory = ⊥
 
@@ -69,6 +74,10 @@ IsText contents text = IsReading contents source_limit (Ok text)
 -- the file has this text: that of contents within the limit, and of those that the outside tells, where it does
 abbrev pub HasText : Files → (file text : List ℕ) → Type 0
 HasText files file text = IsTextWithin source_limit text × IfSome (files.held file) (λ contents. IsText contents text)
+
+-- the same of a script
+abbrev pub HasScript : Files → (file text : List ℕ) → Type 0
+HasScript files file text = IsTextWithin script_limit text × IfSome (files.held file) (λ contents. IsReading contents script_limit (Ok text))
 
 -- ---- texts
 
@@ -108,10 +117,31 @@ IsUnread files file OutOfMemory = ⊤
 IsUnread files file BadCommandLine = ⊥
 IsUnread files file (Source fault) = ⊥
 IsUnread files file NotBuilt = ⊥
+IsUnread files file (Script why) = ⊥
 
 -- when a file's source is refused so, by any order about it: its text can't be had, or is refused
 abbrev pub IsRefusedSource : (unbuilt : List ℕ → Type 0) → Files → (file : List ℕ) → Refusal → Type 0
 IsRefusedSource unbuilt files file refusal = IsUnread files file refusal ⊎ ((text : List ℕ) × HasText files file text × IsRefusedText unbuilt text refusal)
+
+-- ---- scripts
+
+-- when a file's script can't be had so; want of memory alone comes freely
+abbrev pub IsUnreadScript : Files → (file : List ℕ) → Refusal → Type 0
+IsUnreadScript files file ReadFault = Rose (files.before file) (files.after file)
+IsUnreadScript files file (Script script.TooLong) = IfSome (files.held file) (λ contents. script_limit < length contents)
+IsUnreadScript files file (Script (script.NotUtf8 at)) = IfSome (files.held file) (λ contents. IsReading contents script_limit (Err (t.NotUtf8 at)))
+IsUnreadScript files file OutOfMemory = ⊤
+IsUnreadScript files file _ = ⊥
+
+-- when a script is refused so
+abbrev pub IsRefusedScript : List ℕ → Refusal → Type 0
+IsRefusedScript text (Script why) = IsUnmigrated text why
+IsRefusedScript text OutOfMemory = ⊤
+IsRefusedScript text _ = ⊥
+
+-- when a file's script isn't migrated, for this reason
+abbrev pub IsRefusedMigration : Files → (file : List ℕ) → Refusal → Type 0
+IsRefusedMigration files file refusal = IsUnreadScript files file refusal ⊎ ((text : List ℕ) × HasScript files file text × IsRefusedScript text refusal)
 
 -- ---- orders
 
@@ -125,13 +155,13 @@ abbrev pub IsNotRun : Bool → List ℕ → Type 0
 IsNotRun true = IsOfAnotherForm
 IsNotRun false = IsAcceptedText
 
--- when an order is refused so: its source is, where it is about one, or it isn't built
+-- when an order is refused so: its source is, or it isn't built, or its script is; a source is generated but for want of memory
 abbrev pub IsRefusedOrder : PlainOrder → Files → Refusal → Type 0
 IsRefusedOrder (run file script steps workers) files refusal = IsRefusedSource (IsNotRun (runs script steps)) files file refusal
 IsRefusedOrder (check file) files refusal = IsRefusedSource IsNone files file refusal
 IsRefusedOrder (code file) files refusal = IsRefusedSource IsAcceptedText files file refusal
-IsRefusedOrder (generate stages workers) files refusal = refusal ≡ NotBuilt
-IsRefusedOrder (migrate file) files refusal = refusal ≡ NotBuilt
+IsRefusedOrder (generate stages workers) files refusal = refusal ≡ OutOfMemory
+IsRefusedOrder (migrate file) files refusal = IsRefusedMigration files file refusal
 
 -- when a command is refused so: its words are no order, or its order is refused
 abbrev pub IsDue : List (List ℕ) → Files → Refusal → Type 0

@@ -16,7 +16,7 @@ use Rattle.campl_terminals.specs.Terminals.{terminals_of}
 use Rattle.campl_parse.specs.Parsing as parsing
 use Rattle.campl_cli.specs.declared.fault.SourceFault.{SourceFault}
 use Rattle.campl_cli.specs.declared.refusal.Refusal.{Refusal}
-use Rattle.campl_cli.specs.declared.refusal.Refusal.TheVariants.{BadCommandLine, ReadFault, TooLong, NotUtf8, Source, NotBuilt, OutOfMemory}
+use Rattle.campl_cli.specs.declared.refusal.Refusal.TheVariants.{BadCommandLine, ReadFault, TooLong, NotUtf8, Source, NotBuilt, Script, OutOfMemory}
 use Rattle.campl_cli.specs.declared.source.TreeFault.{TreeFault}
 use Rattle.campl_cli.specs.declared.source.TreeFault.TheVariants as tree
 use Rattle.campl_cli.specs.declared.fault.FaultKind.TheVariants.{Text, Name, Function, Process}
@@ -211,4 +211,5 @@ IsRefusedFor told BadCommandLine = ⊥
 IsRefusedFor told TooLong = ⊥
 IsRefusedFor told (NotUtf8 at) = ⊥
 IsRefusedFor told NotBuilt = ⊥
+IsRefusedFor told (Script why) = ⊥
 IsRefusedFor told ReadFault = ⊥

@@ -1,32 +1,36 @@
 //! The command: words, reading and judging the source, the run, and the writing.
-ghost use Rattle.std.specs.Prelude.{MatchResult, map, string_bytes};
+ghost use Rattle.std.specs.Prelude.{◌≡◌, ℕ, List, MatchResult, map, string_bytes};
 ghost use Rattle.campl_cli.specs.Answer.{stream, IsAnswer};
 ghost use Rattle.campl_cli.specs.Form.{Prints, prints_of};
-ghost use Rattle.campl_cli.specs.Performance.{IsAcceptance, IsDone, IsPerformance};
-ghost use Rattle.campl_cli.specs.Refusals.{files, HasText, PrintsText, IsAcceptedFile, IsDue, IsNone, IsNotRun, IsOfAnotherForm, IsRefusedOrder, IsRefusedSource, IsRefusedText, IsSource, IsUnread};
+ghost use Rattle.campl_cli.specs.Performance.{IsDone, IsPerformance, IsTelling};
+ghost use Rattle.campl_cli.specs.Refusals.{files, HasText, PrintsText, IsAcceptedFile, IsDue, IsNone, IsNotRun, IsOfAnotherForm, IsRefusedMigration, IsRefusedOrder, IsRefusedSource, IsRefusedText, IsSource, IsUnread};
+ghost use Rattle.campl_cli.specs.Told.{MigratesFile, accepted_line};
+ghost use Rattle.campl_pipeline.specs.Source.{generated_source};
 ghost use Rattle.campl_cli.specs.Source.{IsAcceptedText, IsRefusedFor, IsSourceFault};
 ghost use Rattle.campl_orders.specs.Orders.{IsOrder, PlainOrder};
 ghost use Rattle.campl_orders.specs.Reading.{view};
 
 use crate::acceptance::judge;
 use crate::gate::Gate;
-use crate::performance::{Performance, accept, perform, print};
+use crate::performance::{Performance, accept, perform, print, tell_text};
 use crate::printer::{Printer, printer_of};
 use crate::refusal::{Refusal, SOURCE_LIMIT};
 use crate::report::Report;
+use crate::script::migrated_of;
 use crate::source::tree_of;
 use crate::telling::refuse;
 use campl_orders::{Order, STEPS, read_words};
+use campl_pipeline::generated_source;
 use campl_text::{Shelf, Sink, Text, TextFault, read_text};
 use std::alloc::Global;
 use std::thread::Threads;
 
 /// Does what the words order, which are those after the program's name; `campl_orders` lists the orders.
 ///
-/// It reads the source FILE from the shelf, checks or runs it, and writes its output onto `out`. Where it is refused it writes one
-/// line onto `err` instead. So far sources are checked, and a run without a script and with the usual budget is done; other orders
-/// are refused behind the check of their source. `docs/LANGUAGE.md` lists the statuses. The runtime and the gate serve runs of
-/// several workers.
+/// It reads the source FILE from the shelf, checks or runs it, or migrates the script FILE, or makes a source, and writes the output
+/// onto `out`. Where it is refused it writes one line onto `err` instead. So far a run without a script and with the usual budget is
+/// done; other runs, and `code`, are refused behind the check of their source. `docs/LANGUAGE.md` lists the statuses. The runtime and
+/// the gate serve runs of several workers.
 pub fn campl<R: Threads + Sync, F: Shelf, O: Sink, E: Sink, G: Gate>(
     rt: &R,
     alloc: Global,
@@ -66,8 +70,8 @@ fn perform_words<F: Shelf>(
     }
 }
 
-// Does what is ordered, as far as it is built: a check, and a run without a script and with the usual budget. Of any other order
-// that is about a source that is checked.
+// Does what is ordered, as far as it is built: of runs those without a script and with the usual budget, and no code. Of other
+// orders about a source it is checked.
 fn perform_order<F: Shelf>(
     alloc: Global,
     order: Order<'_>,
@@ -92,23 +96,49 @@ fn perform_order<F: Shelf>(
         } => Err(unbuilt(alloc, file, shelf)),
         Order::Check { file } => check_file(alloc, file, shelf),
         Order::Code { file } => Err(unbuilt(alloc, file, shelf)),
-        Order::Generate {
-            stages: _,
-            workers: _,
-        } => Err(Refusal::NotBuilt),
-        Order::Migrate { file: _ } => Err(Refusal::NotBuilt),
+        Order::Generate { stages, workers: _ } => generate_stages(alloc, stages),
+        Order::Migrate { file } => migrate_file(alloc, file, shelf),
     }
 }
 
 // Checks the source of a file.
 fn check_file<F: Shelf>(alloc: Global, file: &str, shelf: &mut F) -> Result<Performance, Refusal>
     ensures { MatchResult result
-        (λ performance. IsAcceptedFile (files F.holds F.faults shelf.old shelf.new) file.now × IsAcceptance performance)
+        (λ performance. IsAcceptedFile (files F.holds F.faults shelf.old shelf.new) file.now × IsTelling accepted_line performance)
         (IsRefusedSource IsNone (files F.holds F.faults shelf.old shelf.new) file.now) }
 {
     match read_source(alloc, file, shelf) {
         Ok(text) => check_text(alloc, &text),
         Err(refusal) => Err(refusal),
+    }
+}
+
+// Makes the source of a pipeline of so many stages.
+fn generate_stages(alloc: Global, stages: u32) -> Result<Performance, Refusal>
+    ensures { MatchResult result (IsTelling (generated_source stages)) (λ refusal. refusal ≡ Refusal.OutOfMemory) }
+{
+    let Ok(source) = generated_source(alloc, stages) else {
+        return Err(Refusal::OutOfMemory);
+    };
+    match tell_text(alloc, source.as_str()) {
+        Ok(performance) => Ok(performance),
+        Err(_) => Err(Refusal::OutOfMemory),
+    }
+}
+
+// Migrates the script of a file.
+fn migrate_file<F: Shelf>(alloc: Global, file: &str, shelf: &mut F) -> Result<Performance, Refusal>
+    ensures { MatchResult result
+        (λ performance. (output : List ℕ) × MigratesFile (files F.holds F.faults shelf.old shelf.new) file.now output × IsTelling output performance)
+        (IsRefusedMigration (files F.holds F.faults shelf.old shelf.new) file.now) }
+{
+    let script = match migrated_of(alloc, file, shelf) {
+        Ok(script) => script,
+        Err(refusal) => return Err(refusal),
+    };
+    match tell_text(alloc, script.as_str()) {
+        Ok(performance) => Ok(performance),
+        Err(_) => Err(Refusal::OutOfMemory),
     }
 }
 
@@ -151,7 +181,7 @@ fn read_source<F: Shelf>(alloc: Global, file: &str, shelf: &mut F) -> Result<Tex
 
 // Checks a text.
 fn check_text(alloc: Global, text: &Text) -> Result<Performance, Refusal>
-    ensures { MatchResult result (λ performance. IsAcceptedText text.now × IsAcceptance performance) (IsRefusedText IsNone text.now) }
+    ensures { MatchResult result (λ performance. IsAcceptedText text.now × IsTelling accepted_line performance) (IsRefusedText IsNone text.now) }
 {
     match judge_text(alloc, text) {
         Ok(()) => {}

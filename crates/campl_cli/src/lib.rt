@@ -1,7 +1,7 @@
 //! The command: it reads a source, judges it, runs it and writes what came out, or the one line of its refusal.
 //!
-//! Every source is judged, and `check` tells of one that it is accepted. So far the program runs that prints texts on one
-//! console, closes it and halts.
+//! Every source is judged, and `check` tells of one that it is accepted. `generate` makes a source, and `migrate` writes a script
+//! anew. So far the program runs that prints texts on one console, closes it and halts.
 #![tactic(auto)]
 
 mod acceptance;
@@ -18,6 +18,7 @@ mod processes;
 mod refusal;
 mod report;
 mod runner;
+mod script;
 mod source;
 mod telling;
 
@@ -32,5 +33,6 @@ pub use printer::{Printer, printer_of};
 pub use processes::judge_processes;
 pub use refusal::{Refusal, SOURCE_LIMIT};
 pub use report::{Ended, Report};
+pub use script::ScriptRefusal;
 pub use source::{TreeFault, one_answer, tree_of};
 pub use telling::refuse;

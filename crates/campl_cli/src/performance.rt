@@ -3,8 +3,9 @@ ghost use Rattle.std.specs.Prelude.{◌≡◌, IfOk};
 ghost use Rattle.campl_config.specs.Journal.{weight_of};
 ghost use Rattle.campl_cli.specs.Answer.{stream, HadOrFailed};
 ghost use Rattle.campl_cli.specs.Form.{IsFine, prints_of};
-ghost use Rattle.campl_cli.specs.Performance.{IsAcceptance, IsPerformance, IsPrinted};
+ghost use Rattle.campl_cli.specs.Performance.{IsPerformance, IsPrinted, IsTelling};
 ghost use Rattle.campl_cli.specs.Refusals.{write_fault_line};
+ghost use Rattle.campl_cli.specs.Told.{accepted_line};
 
 use crate::output::output;
 use crate::printer::Printer;
@@ -30,15 +31,29 @@ pub struct Performance {
 
 /// Tells that a source is accepted.
 pub fn accept(alloc: Global) -> Result<Performance, AllocError>
-    ensures { IfOk result IsAcceptance }
+    ensures { IfOk result (IsTelling accepted_line) }
+{
+    tell_text(alloc, "accepted\n")
+}
+
+/// What tells this text, where nothing runs.
+pub fn tell_text(alloc: Global, text: &str) -> Result<Performance, AllocError>
+    ensures { IfOk result (IsTelling text.now) }
 {
     let mut output = Vec::new(alloc);
-    output.extend_from_slice(b"accepted\n")?;
-    Ok(Performance {
+    output.extend_from_slice(text.as_bytes())?;
+    Ok(tell_alone(alloc, output))
+}
+
+/// What tells these bytes, where nothing runs.
+pub fn tell_alone(alloc: Global, output: Vec<u8>) -> Performance
+    ensures { IsTelling output.items result }
+{
+    Performance {
         journal: Journal::new(alloc),
         ended: None,
         output,
-    })
+    }
 }
 
 /// Runs a printer, and builds its whole output.

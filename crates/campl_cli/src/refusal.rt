@@ -4,6 +4,7 @@ ghost use Rattle.campl_cli.specs.Refusals.{status_of};
 ghost use Rattle.campl_cli.specs.Source.{refusal_of_text};
 
 use crate::fault::{Detail, FaultKind, SourceFault};
+use crate::script::ScriptRefusal;
 use crate::source::TreeFault;
 use thiserror::Error;
 
@@ -25,9 +26,12 @@ pub enum Refusal {
     /// The source has a fault, of which this is the first: of its tokens, layout or grammar, its names, its functions or its processes.
     #[error("{0}")]
     Source(SourceFault),
-    /// The source is accepted, and what is ordered isn't built for it yet; or the order isn't built and is about no source.
+    /// The source is accepted, and what is ordered isn't built for it yet.
     #[error("E60 NotBuilt at 1:1")]
     NotBuilt,
+    /// The script is refused.
+    #[error("script refused: {0:?}")]
+    Script(ScriptRefusal),
     /// The source can't be read.
     #[error("read fault")]
     ReadFault,
@@ -44,6 +48,7 @@ impl Drop for Refusal {
             | Refusal::TooLong
             | Refusal::NotUtf8 { at: _ }
             | Refusal::NotBuilt
+            | Refusal::Script(_)
             | Refusal::ReadFault
             | Refusal::OutOfMemory => (),
         }
@@ -73,6 +78,7 @@ impl Refusal {
             Refusal::BadCommandLine => 2,
             Refusal::TooLong | Refusal::NotUtf8 { .. } | Refusal::Source(_) | Refusal::NotBuilt =>
                 3,
+            Refusal::Script(_) => 4,
             Refusal::ReadFault => 5,
             Refusal::OutOfMemory => 7,
         }

@@ -17,8 +17,8 @@ pub enum Ended {
 /// The answer of the command.
 #[derive(Drop)]
 pub struct Report {
-    /// The exit status: 0 where the run finished or the source is accepted; 2 for a bad command line, 3 for a refused source, 5 for a failed read,
-    /// 6 for a failed write, and 7 for want of memory.
+    /// The exit status: 0 where what was ordered was done; 2 for a bad command line, 3 for a refused source, 4 for a refused script, 5 for a
+    /// failed read, 6 for a failed write, and 7 for want of memory.
     pub status: u8,
     /// How the run ended, and `None` where none came to its end.
     pub ended: Option<Ended>,

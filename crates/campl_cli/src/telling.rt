@@ -4,12 +4,15 @@ ghost use Rattle.std.specs.Fmt.{decimal};
 ghost use Rattle.campl_cli.specs.Faults.{message_of_detail};
 ghost use Rattle.campl_cli.specs.declared.fault.Detail.TheVariants.{HeldSo};
 ghost use Rattle.campl_cli.specs.Refusals.{TakesMemory, line_of, status_of};
+ghost use Rattle.campl_cli.specs.Scripts.{ScriptTakesMemory};
 ghost use Rattle.campl_cli.specs.Answer.{stream, IsTold, IsRefused, HasNoRun};
 
 use crate::fault::{Detail, SourceFault, side_word};
 use crate::refusal::Refusal;
 use crate::report::Report;
+use crate::script::{ScriptRefusal, line_number, what_is_wrong};
 use campl_config::Journal;
+use campl_service::ScriptFault;
 use campl_shown::Shown;
 use campl_text::{Sink, write_all_of};
 use campl_tree::{Name, Side};
@@ -42,7 +45,13 @@ fn standing_line(refusal: &Refusal) -> Option<&'static str>
         Refusal::NotBuilt => Some("campl: E60 NotBuilt at 1:1\n"),
         Refusal::ReadFault => Some("campl: read fault\n"),
         Refusal::OutOfMemory => Some(OUT_OF_MEMORY_LINE),
-        Refusal::NotUtf8 { .. } | Refusal::Source(_) => None,
+        Refusal::Script(ScriptRefusal::TooLong) => Some(
+            "campl: script is longer than 16777216 bytes\n",
+        ),
+        Refusal::Script(ScriptRefusal::MigratedTooLong) => {
+            Some("campl: migrated script is longer than 16777216 bytes\n")
+        }
+        Refusal::NotUtf8 { .. } | Refusal::Source(_) | Refusal::Script(_) => None,
     }
 }
 
@@ -65,12 +74,41 @@ fn made_line(alloc: Global, refusal: &Refusal) -> Result<String, AllocError>
     match refusal {
         Refusal::NotUtf8 { at } => format!(in alloc; "campl: source isn't UTF-8 at byte {at}\n"),
         Refusal::Source(fault) => line_of_fault(alloc, fault),
+        Refusal::Script(why) => line_of_script(alloc, why),
         Refusal::BadCommandLine
         | Refusal::TooLong
         | Refusal::NotBuilt
         | Refusal::ReadFault
         | Refusal::OutOfMemory => unreachable!(),
     }
+}
+
+// The line of a refused script that takes memory.
+fn line_of_script(alloc: Global, why: &ScriptRefusal) -> Result<String, AllocError>
+    requires { ScriptTakesMemory why.now }
+    ensures { IfOk result (λ line. string_bytes line ≡ line_of (Refusal.Script why.now)) }
+{
+    match why {
+        ScriptRefusal::NotUtf8 { at } => format!(in alloc;
+            "campl: script isn't UTF-8 at byte {at}\n"
+        ),
+        ScriptRefusal::Line(fault) => line_of_line(alloc, fault),
+        ScriptRefusal::TooLong | ScriptRefusal::MigratedTooLong => unreachable!(),
+    }
+}
+
+// The line of a fault in a line of a script.
+fn line_of_line(alloc: Global, fault: &ScriptFault) -> Result<String, AllocError>
+    ensures { IfOk result (λ line. string_bytes line ≡ line_of (Refusal.Script (ScriptRefusal.Line fault.now))) }
+{
+    numbered(alloc, line_number(fault), what_is_wrong(fault))
+}
+
+// What is told of the line of a script with this number.
+fn numbered(alloc: Global, line: u32, wrong: &str) -> Result<String, AllocError>
+    ensures { IfOk result (λ text. string_bytes text ≡ codes "campl: " ++ (codes "script line " ++ (decimal line ++ (codes ": " ++ (wrong.now ++ (10 ∷ [])))))) }
+{
+    format!(in alloc; "campl: script line {line}: {wrong}\n")
 }
 
 // The line of a fault.
