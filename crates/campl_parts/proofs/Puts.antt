@@ -1,7 +1,7 @@
 -- Functions that are changed at one number, and lists that are read by number.
 use Rattle.std.proofs.Common.{◌≡◌, ◌≢◌, ◌<◌, ◌⊎◌, inl, inr, ℕ, zero, suc, Bool, true, false, List, [], ◌∷◌, ◌++◌, Option, Some, length, set, eqb, refl, sym, ap, subst, ◌∙◌, eq-eqb, ne_eqb, eqb-true, cond, true≢false, arith, slice_get}
 use Rattle.std.proofs.Math.Path.{fun_ext}
-use Rattle.campl_parts.specs.Ends.{put}
+use Rattle.campl_cells.specs.Parts.{put}
 
 split : (b : Bool) → (b ≡ true) ⊎ (b ≡ false)
 split true = inl refl

@@ -1,9 +1,5 @@
 -- The ends that a process holds, by channel.
-use Rattle.std.specs.Prelude.{ℕ, List, Option, Some, None, map, eqb, slice_get, if◌then◌else◌}
-
--- f, but x at i
-abbrev pub put : {A : Type 0} → ℕ → A → (ℕ → A) → ℕ → A
-put i x f k = if eqb i k then x else f k
+use Rattle.std.specs.Prelude.{ℕ, List, Option, Some, None, map, slice_get}
 
 abbrev pub found : Option (Option ℕ) → Option ℕ
 found None = None

@@ -1,3 +1,5 @@
 pub mod Ends
 pub mod Journal
-pub mod Tips
+pub mod Plans
+pub mod Views
+pub mod Wanted

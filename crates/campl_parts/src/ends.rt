@@ -1,6 +1,7 @@
 //! The ends that a process holds.
 ghost use Rattle.std.specs.Prelude.{◌≡◌, ◌-◌, ◌++◌, [], ◌∷◌, Some, None, IfOk, OnOk, length, replicate};
-ghost use Rattle.campl_parts.specs.Ends.{ends_of, handed, put};
+ghost use Rattle.campl_cells.specs.Wants.{set_end};
+ghost use Rattle.campl_parts.specs.Ends.{ends_of, handed};
 
 use std::alloc::{AllocError, Global};
 use std::marker::Model;
@@ -44,7 +45,7 @@ impl Ends {
 
     /// Sets a channel's end. An error means that memory is out.
     pub fn set(&mut self, channel: u32, end: u32) -> Result<(), AllocError>
-        ensures { OnOk result (ends_of self.new ≡ put channel (Some end) (ends_of self.old)) }
+        ensures { OnOk result (ends_of self.new ≡ set_end channel end (ends_of self.old)) }
     {
         self.pad(channel as usize + 1)?;
         self.items[channel as usize] = Some(end);

@@ -1,7 +1,9 @@
 //! An end of a channel, and the messages that lie at it.
 ghost use Rattle.std.specs.Prelude.{◌≡◌, ◌+◌, ◌≤◌, ◌++◌, [], Some, None, OnOk, drop};
 ghost use Rattle.std.specs.VecDeque.{deque_len, deque_capacity};
-ghost use Rattle.campl_parts.specs.Tips.{arrives, bare, joined_to, mail_of, mails_of, tip_of};
+ghost use Rattle.campl_cells.specs.Parts.{bare};
+ghost use Rattle.campl_cells.specs.Steps.{arrives, joined_to};
+ghost use Rattle.campl_parts.specs.Views.{mail_of, mails_of, tip_of};
 
 use campl_value::Message;
 use std::alloc::{AllocError, Global};
