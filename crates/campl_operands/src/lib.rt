@@ -12,6 +12,7 @@
 //! ```
 #![tactic(auto)]
 
+mod copies;
 mod effect;
 mod making;
 mod operands;
