@@ -1,5 +1,6 @@
 pub mod Ends
 pub mod Journal
 pub mod Plans
+pub mod Serving
 pub mod Views
 pub mod Wanted

@@ -1,5 +1,5 @@
 -- The plain parts that those in memory are seen as.
-use Rattle.std.specs.Prelude.{ℕ, List, Option, map, option_map}
+use Rattle.std.specs.Prelude.{List, map, option_map}
 use Rattle.campl_value.specs.declared.message.Message.{Message}
 use Rattle.campl_value.specs.declared.message.Message.TheVariants as m
 use Rattle.campl_code.specs.Instructions.{Code}

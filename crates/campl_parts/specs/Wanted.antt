@@ -1,11 +1,10 @@
 -- What a process wants, as code tells it, and the plain want that it is seen as.
-use Rattle.std.specs.Prelude.{ℕ, suc, List, [], ◌∷◌, ◌++◌, Option, Some, None, option_map, replicate, slice_get, slice_set}
+use Rattle.std.specs.Prelude.{ℕ, Bool, true, ◌&&◌, List, [], ◌∷◌, ◌++◌, Option, Some, None, is_some, option_map, replicate, slice_get, slice_set}
 use Rattle.campl_value.specs.Tree.{Tree, Nil}
-use Rattle.campl_meaning.specs.States as k
 use Rattle.campl_service.specs.Services as services
-use Rattle.campl_code.specs.Instructions.{Instr, Block, Code, blocks}
+use Rattle.campl_code.specs.Instructions.{Instr, Block, blocks}
 use Rattle.campl_code.specs.Frames.{set_from}
-use Rattle.campl_code.specs.Decisions.{Spot, values_at}
+use Rattle.campl_code.specs.Decisions.{Spot, value_at, values_at}
 use Rattle.campl_cells.specs.Parts.{Mail, Word, Pick, EndPair}
 use Rattle.campl_cells.specs.Wants as w
 use Rattle.campl_cells.specs.Wants.{Start, Next, Gone, Spends, Begins, Move, behind, set_end, end_at, word_to, pick_to, ends_to, hears, says}
@@ -43,6 +42,11 @@ or_none (Some ts) = ts
 -- variables with those of a row, from the first on, whose values stand at these spots
 abbrev pub row_vars : (first : ℕ) → List Tree → List Spot → List Tree → List Tree
 row_vars first values spots vars = set_from first (or_none (values_at values spots)) vars
+
+-- there is a value at each of these spots
+abbrev pub all_there : List Tree → List Spot → Bool
+all_there values [] = true
+all_there values (s ∷ spots) = is_some (value_at values s) && all_there values spots
 
 abbrev pub sent_of : Sent → Mail
 sent_of (s.Word value) = Word value.now

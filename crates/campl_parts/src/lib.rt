@@ -9,12 +9,14 @@
 
 mod ends;
 mod entry;
+mod going;
 mod inbox;
 mod journal;
 mod look;
 mod part;
 mod place;
 mod plan;
+mod serving;
 mod want;
 mod wanting;
 
@@ -25,5 +27,6 @@ pub use journal::Journal;
 pub use part::{Drawn, Life, ProcPart, Running};
 pub use place::{Begun, Place};
 pub use plan::Planned;
+pub use serving::suits;
 pub use want::{Deed, Look, Sent, Want};
 pub use wanting::Ready;

@@ -8,7 +8,7 @@ ghost use Rattle.campl_parts.specs.Wanted.{at_place, start_of, with_ends};
 
 use crate::ends::Ends;
 use crate::part::{Life, Running};
-use campl_kept::{Kept, copy_variables};
+use campl_kept::Kept;
 use campl_operands::Variables;
 use campl_program::Program;
 use std::alloc::{AllocError, Global};
@@ -36,7 +36,7 @@ impl<'a> Place<'a> {
     pub fn copy(&self, alloc: Global) -> Result<Begun, AllocError>
         ensures { IfOk result (λ begun. begun_of begun ≡ start_of self.now) }
     {
-        let variables = copy_variables(alloc, self.variables)?;
+        let variables = self.variables.copy(alloc)?;
         let ends = self.ends.copy(alloc)?;
         Ok(Begun {
             block: self.block,

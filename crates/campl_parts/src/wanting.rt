@@ -1,6 +1,7 @@
 //! What a process does next, read off its part.
 ghost use Rattle.std.specs.Prelude.{◌≡◌, ◌+◌, ◌<◌, ◌^◌, None, is_some, length, option_map, slice_get};
-ghost use Rattle.campl_code.specs.Decisions.{chosen, values_at};
+ghost use Rattle.campl_code.specs.Decisions.{chosen};
+ghost use Rattle.campl_code.specs.Decisions as decisions;
 ghost use Rattle.campl_code.specs.Instructions as i;
 ghost use Rattle.campl_code.specs.Instructions.{blocks};
 ghost use Rattle.campl_code.specs.Frames.{set_from};
@@ -13,14 +14,14 @@ ghost use Rattle.campl_cells.specs.Wants as w;
 ghost use Rattle.campl_cells.specs.Wants.{Links, at_instruction, end_at, onward, quiet, sends, start_at, wanted, with_found, with_one};
 ghost use Rattle.campl_parts.specs.Ends.{ends_of};
 ghost use Rattle.campl_parts.specs.Views.{code_of, drawn_of, held_of};
-ghost use Rattle.campl_parts.specs.Wanted.{block_of, done_of, start_of, want_of};
+ghost use Rattle.campl_parts.specs.Wanted.{all_there, block_of, done_of, start_of, want_of};
 
 use crate::entry::Kind;
 use crate::part::{Drawn, Running};
 use crate::place::Place;
 use crate::want::{Channel, Deed, Look, Sent, Want};
 use campl_instructions::{Decision, Instr, Spot, value_at};
-use campl_kept::{Kept, process_entry};
+use campl_kept::Kept;
 use campl_operands::Variables;
 use campl_program::Program;
 use campl_tree::Side;
@@ -323,7 +324,7 @@ impl<'a> Ready<'a> {
             end: None,
             deed: Deed::Peels {
                 held,
-                own: channel.end_on(side.opposite()),
+                own: channel.end_on(side.other()),
                 its: channel.end_on(side),
                 to,
                 channel: self.drawn.channel,
@@ -377,11 +378,21 @@ impl<'a> Ready<'a> {
         ensures { result ≡ w.are_set (block_of self.now) (held_of self.now.running.now).ends targets.now }
     {
         for to in targets {
-            if self.end_at(*to).is_none() {
+            if !self.is_set(*to) {
                 return false;
             }
         }
         true
+    }
+
+    // Whether the channel that the instruction at a place waits on has an end.
+    fn is_set(&self, to: u32) -> bool
+        ensures { result ≡ is_some (end_at (held_of self.now.running.now).ends (channel_at (block_of self.now) to)) }
+    {
+        match self.end_at(to) {
+            None => false,
+            Some(_) => true,
+        }
     }
 
     // The end of the channel that the instruction at a place waits on.
@@ -440,14 +451,15 @@ impl<'a> Ready<'a> {
     fn go(&self, process: u32, channels: &'a [u32]) -> Want<'a>
         ensures { want_of result ≡ done_of self.now (i.Go process channels.now) }
     {
-        let Some((parameters, size)) = process_entry(self.program, process) else {
+        let Some((parameters, size)) = self.program.process_entry(process) else {
             return Want::Rests;
         };
+        let functions = self.program.raw().functions.as_slice();
         Want::Moves {
             kind: Kind::Call,
             end: None,
             deed: Deed::Calls {
-                block: self.program.raw().functions.len() + process as usize,
+                block: functions.len() + process as usize,
                 missing: size.saturating_sub(parameters as usize),
                 values: self.values,
                 channels,
@@ -470,12 +482,21 @@ fn awaited(instr: &Instr) -> Option<u32>
 }
 
 fn are_there(values: &[Value], spots: &[Spot]) -> bool
-    ensures { result ≡ is_some (values_at values.now spots.now) }
+    ensures { result ≡ all_there values.now spots.now }
 {
     for spot in spots {
-        if value_at(values, spot.as_slice()).is_none() {
+        if !is_there(values, spot.as_slice()) {
             return false;
         }
     }
     true
+}
+
+fn is_there(values: &[Value], spot: &[u32]) -> bool
+    ensures { result ≡ is_some (decisions.value_at values.now spot.now) }
+{
+    match value_at(values, spot) {
+        None => false,
+        Some(_) => true,
+    }
 }
