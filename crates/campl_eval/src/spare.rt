@@ -13,12 +13,7 @@ pub struct Spare {
 }
 
 impl Model for Spare {
-    ghost use Rattle.std.specs.Prelude.{Unit};
-    ghost use Rattle.std.specs.Coded.{coded_unit};
-
     ghost Value = { Unit {0} };
-
-    ghost coded = { coded_unit };
 
     ghost view = { λ _. tt };
 }

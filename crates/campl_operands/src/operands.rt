@@ -2,7 +2,7 @@
 ghost use Rattle.std.specs.Prelude.{◌≡◌, ◌≤◌, ◌<◌, [], ◌∷◌, length, reverse, take, drop, IfOk, OnOk, MatchOption};
 
 use crate::Variables;
-use crate::copies::copies;
+use crate::copying::copies;
 use campl_value::Value;
 use std::alloc::{AllocError, Global};
 use std::marker::Model;

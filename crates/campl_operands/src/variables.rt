@@ -7,7 +7,7 @@ ghost use Rattle.campl_code.specs.Frames.{set_from};
 ghost use Rattle.campl_operands.specs.Effects.{Sets};
 
 use crate::RowEffect;
-use crate::copies::copies;
+use crate::copying::copies;
 use campl_instructions::{Spot, value_at};
 use campl_value::Value;
 use std::alloc::{AllocError, Global};

@@ -5,7 +5,7 @@ use campl_value::Value;
 use std::alloc::{AllocError, Global};
 
 /// The same values, each of which shares its parts with its copy. An error means that memory is out.
-pub(crate) fn copies(alloc: Global, values: &[Value]) -> Result<Vec<Value>, AllocError>
+pub fn copies(alloc: Global, values: &[Value]) -> Result<Vec<Value>, AllocError>
     ensures { IfOk result (λ copies. copies.items ≡ values.now) }
 {
     let mut copies = Vec::new(alloc);
