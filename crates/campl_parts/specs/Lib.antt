@@ -2,5 +2,6 @@ pub mod Ends
 pub mod Journal
 pub mod Plans
 pub mod Serving
+pub mod Tables
 pub mod Views
 pub mod Wanted

@@ -9,17 +9,14 @@ use Rattle.campl_parts.specs.declared.part.Life.{Life}
 use Rattle.campl_parts.specs.declared.place.Begun.{Begun}
 use Rattle.campl_parts.specs.declared.plan.Planned.{Planned}
 use Rattle.campl_parts.specs.Ends.{ends_of}
-use Rattle.campl_parts.specs.Views.{mail_of, life_of}
+use Rattle.campl_parts.specs.Views.{life_of}
 
 abbrev pub begun_of : Begun → Start
 begun_of s = record { block = s.block; at = s.at; vars = s.variables; ends = ends_of s.ends }
 
-abbrev pub sending : Option (ℕ × Message) → Option (ℕ × Mail)
-sending = option_map (λ s. (s.0, mail_of s.1))
-
 -- the message and the lives are those of the move
 abbrev pub IsPlanned : Code → Move → Planned → Type 0
-IsPlanned code v p = (sending p.send ≡ v.send) × IsChildOf code v.child (option_map life_of p.child) × IsLifeOf code v.next (life_of p.next)
+IsPlanned code v p = (p.send ≡ v.send) × IsChildOf code v.child (option_map life_of p.child) × IsLifeOf code v.next (life_of p.next)
 
 -- the life is what a look comes to, if the message fits
 abbrev pub IsFit : Code → Option Next → Option Life → Type 0

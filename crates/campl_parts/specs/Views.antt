@@ -1,12 +1,7 @@
 -- The plain parts that those in memory are seen as.
-use Rattle.std.specs.Prelude.{List, map, option_map}
-use Rattle.campl_value.specs.declared.message.Message.{Message}
-use Rattle.campl_value.specs.declared.message.Message.TheVariants as m
-use Rattle.campl_code.specs.Instructions.{Code}
-use Rattle.campl_instructions.specs.View.{view_code}
-use Rattle.campl_program.specs.declared.program.Program.{Program}
+use Rattle.std.specs.Prelude.{ℕ, List, Option}
 use Rattle.campl_meaning.specs.States as k
-use Rattle.campl_kept.specs.View.{kept_view}
+use Rattle.campl_kept.specs.View.{view_kept}
 use Rattle.campl_cells.specs.Parts as c
 use Rattle.campl_cells.specs.Steps as steps
 use Rattle.campl_cells.specs.Wants as wants
@@ -20,9 +15,6 @@ use Rattle.campl_parts.specs.declared.part.Life.TheVariants as l
 use Rattle.campl_parts.specs.declared.part.ProcPart.{ProcPart}
 use Rattle.campl_parts.specs.declared.part.Drawn.{Drawn}
 use Rattle.campl_parts.specs.Ends.{ends_of}
-
-abbrev pub code_of : Program → Code
-code_of program = view_code program.raw
 
 abbrev pub kind_of : Kind → k.Kind
 kind_of v.Work = k.Work
@@ -43,19 +35,11 @@ kind_of v.ServePick = k.ServePick
 kind_of v.ServeText = k.ServeText
 kind_of v.ServeLine = k.ServeLine
 
-abbrev pub mail_of : Message → c.Mail
-mail_of (m.Word value) = c.Word value
-mail_of (m.Pick number) = c.Pick number
-mail_of (m.Ends first second) = c.EndPair first second
-
-abbrev pub mails_of : List Message → List c.Mail
-mails_of = map mail_of
-
 abbrev pub tip_of : EndPart → c.Tip
-tip_of e = record { peer = e.peer; inbox = mails_of e.inbox.items }
+tip_of e = record { peer = e.peer; inbox = e.inbox.items }
 
 abbrev pub held_of : Running → c.Held
-held_of r = record { block = r.block; ends = ends_of r.ends; kept = kept_view r.kept }
+held_of r = record { block = r.block; ends = ends_of r.ends; kept = view_kept r.kept }
 
 abbrev pub life_of : Life → c.Life
 life_of l.Ended = c.Ended
@@ -75,7 +59,7 @@ entry_of e = record {
   weight = e.weight;
   end = e.end;
   second = e.second;
-  message = option_map mail_of e.message;
+  message = e.message;
   child = e.child;
   channel = e.channel;
   channel2 = e.channel2;

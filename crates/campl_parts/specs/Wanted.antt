@@ -5,7 +5,8 @@ use Rattle.campl_service.specs.Services as services
 use Rattle.campl_code.specs.Instructions.{Instr, Block, blocks}
 use Rattle.campl_code.specs.Frames.{set_from}
 use Rattle.campl_code.specs.Decisions.{Spot, value_at, values_at}
-use Rattle.campl_cells.specs.Parts.{Mail, Word, Pick, EndPair}
+use Rattle.campl_value.specs.declared.message.Message.TheVariants as m
+use Rattle.campl_cells.specs.Parts.{Mail}
 use Rattle.campl_cells.specs.Wants as w
 use Rattle.campl_cells.specs.Wants.{Start, Next, Gone, Spends, Begins, Move, behind, set_end, end_at, word_to, pick_to, ends_to, hears, says}
 use Rattle.campl_parts.specs.declared.place.Place.{Place}
@@ -20,7 +21,8 @@ use Rattle.campl_parts.specs.declared.want.Want.{Want}
 use Rattle.campl_parts.specs.declared.want.Want.TheVariants as v
 use Rattle.campl_parts.specs.declared.wanting.Ready.{Ready}
 use Rattle.campl_parts.specs.Ends.{ends_of}
-use Rattle.campl_parts.specs.Views.{code_of, drawn_of, held_of, kind_of}
+use Rattle.campl_eval.specs.View.{code_of}
+use Rattle.campl_parts.specs.Views.{drawn_of, held_of, kind_of}
 
 abbrev pub start_of : Place → Start
 start_of p = record { block = p.block; at = p.at; vars = p.variables.now; ends = ends_of p.ends.now }
@@ -49,8 +51,8 @@ all_there values [] = true
 all_there values (s ∷ spots) = is_some (value_at values s) && all_there values spots
 
 abbrev pub sent_of : Sent → Mail
-sent_of (s.Word value) = Word value.now
-sent_of (s.Pick number) = Pick number
+sent_of (s.Word value) = m.Word value.now
+sent_of (s.Pick number) = m.Pick number
 
 -- it goes on alone
 abbrev pub alone : Next → Move
@@ -67,7 +69,7 @@ called_start block missing values channels ends = record {
 
 abbrev pub forks : (end own its to : ℕ) → Channel → Channel → Start → Move
 forks end own its to channel channel2 p = record {
-  send = Some (end, EndPair channel.far channel2.far);
+  send = Some (end, m.Ends channel.far channel2.far);
   channels = channel.number ∷ channel2.number ∷ [];
   child = Some (with_ends (at_place p to) (set_end its channel2.near p.ends));
   next = Begins (with_ends p (set_end own channel.near p.ends));

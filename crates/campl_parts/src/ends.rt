@@ -1,6 +1,6 @@
 //! The ends that a process holds.
-ghost use Rattle.std.specs.Prelude.{◌≡◌, ◌-◌, ◌++◌, [], ◌∷◌, Some, None, IfOk, OnOk, length, replicate};
-ghost use Rattle.campl_cells.specs.Wants.{set_end};
+ghost use Rattle.std.specs.Prelude.{◌≡◌, ◌-◌, ◌++◌, [], ◌∷◌, Some, None, IfOk, OnOk, length, replicate, slice_get};
+ghost use Rattle.campl_cells.specs.Wants.{end_at, set_end};
 ghost use Rattle.campl_parts.specs.Ends.{ends_of, handed};
 
 use std::alloc::{AllocError, Global};
@@ -78,8 +78,17 @@ impl Ends {
         Ok(Ends { items })
     }
 
-    /// The ends of these channels, in their order. An error means that memory is out.
-    pub fn handed(&self, alloc: Global, channels: &[u32]) -> Result<Ends, AllocError>
+    /// The ends of these channels, numbered anew in their order. An error means that memory is out.
+    pub fn given(&self, alloc: Global, channels: &[u32]) -> Result<Ends, AllocError>
+        ensures { IfOk result (λ ends. ends_of ends ≡ (λ n. end_at (ends_of self.now) (slice_get channels.now n))) }
+    {
+        match self.handed(alloc, channels) {
+            Ok(ends) => Ok(ends),
+            Err(error) => Err(error),
+        }
+    }
+
+    fn handed(&self, alloc: Global, channels: &[u32]) -> Result<Ends, AllocError>
         ensures { IfOk result (λ ends. ends ≡ handed self.now channels.now) }
     {
         let mut items = Vec::new(alloc);

@@ -2,7 +2,8 @@
 ghost use Rattle.std.specs.Prelude.{◌≡◌, ◌<◌, ◌^◌};
 ghost use Rattle.campl_cells.specs.Steps.{goes_on, newborn};
 ghost use Rattle.campl_cells.specs.Wants.{wanted};
-ghost use Rattle.campl_parts.specs.Views.{code_of, drawn_of, life_of, proc_of};
+ghost use Rattle.campl_eval.specs.View.{code_of};
+ghost use Rattle.campl_parts.specs.Views.{drawn_of, life_of, proc_of};
 ghost use Rattle.campl_parts.specs.Wanted.{want_of};
 
 use crate::part::{Drawn, Life, ProcPart};

@@ -3,7 +3,7 @@ ghost use Rattle.std.specs.Prelude.{◌≡◌, ◌+◌, ◌≤◌, ◌++◌, [],
 ghost use Rattle.std.specs.VecDeque.{deque_len, deque_capacity};
 ghost use Rattle.campl_cells.specs.Parts.{bare};
 ghost use Rattle.campl_cells.specs.Steps.{arrives, joined_to};
-ghost use Rattle.campl_parts.specs.Views.{mail_of, mails_of, tip_of};
+ghost use Rattle.campl_parts.specs.Views.{tip_of};
 
 use campl_value::Message;
 use std::alloc::{AllocError, Global};
@@ -40,7 +40,7 @@ impl EndPart {
     /// A message arrives, behind the others.
     pub fn arrive(&mut self, message: Message)
         requires { deque_len self.old.inbox + 1 ≤ deque_capacity self.old.inbox }
-        ensures { tip_of self.new ≡ arrives (mail_of message) (tip_of self.old) }
+        ensures { tip_of self.new ≡ arrives message (tip_of self.old) }
     {
         self.inbox.push_back_reserved(message);
     }
@@ -66,7 +66,7 @@ impl EndPart {
     /// Gets another partner, and messages behind those that lie here.
     pub fn meet(&mut self, peer: u32, mut messages: VecDeque<Message>)
         requires { deque_len self.old.inbox + deque_len messages ≤ deque_capacity self.old.inbox }
-        ensures { tip_of self.new ≡ record { peer = Some peer; inbox = (tip_of self.old).inbox ++ mails_of messages.items } }
+        ensures { tip_of self.new ≡ record { peer = Some peer; inbox = (tip_of self.old).inbox ++ messages.items } }
     {
         self.peer = Some(peer);
         let _ = self.inbox.append(&mut messages);

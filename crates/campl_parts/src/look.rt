@@ -4,7 +4,7 @@ ghost use Rattle.std.specs.Option.{option_copied};
 ghost use Rattle.campl_cells.specs.Wants.{Begins, set_end, word_to, pick_to, ends_to};
 ghost use Rattle.campl_parts.specs.Ends.{ends_of};
 ghost use Rattle.campl_parts.specs.Plans.{IsFit, begun_of};
-ghost use Rattle.campl_parts.specs.Views.{code_of, mail_of};
+ghost use Rattle.campl_eval.specs.View.{code_of};
 ghost use Rattle.campl_parts.specs.Wanted.{at_place, look_of, start_of, with_ends, with_vars};
 
 use crate::part::Life;
@@ -23,7 +23,7 @@ impl Look<'_> {
         program: &Program,
         message: &Message,
     ) -> Result<Option<Life>, AllocError>
-        ensures { IfOk result (λ life. IsFit (code_of program.now) (look_of self.now (mail_of message.now)) life) }
+        ensures { IfOk result (λ life. IsFit (code_of program.now) (look_of self.now message.now) life) }
     {
         match self {
             Look::Gets { variable, place } => get(alloc, program, *variable, place, message),
@@ -44,7 +44,7 @@ fn get(
     place: &Place<'_>,
     message: &Message,
 ) -> Result<Option<Life>, AllocError>
-    ensures { IfOk result (λ life. IsFit (code_of program.now) (word_to (λ u. Some (Begins (with_vars (start_of place.now) (slice_set place.now.variables.now variable u)))) (mail_of message.now)) life) }
+    ensures { IfOk result (λ life. IsFit (code_of program.now) (word_to (λ u. Some (Begins (with_vars (start_of place.now) (slice_set place.now.variables.now variable u)))) message.now) life) }
 {
     match message {
         Message::Word(value) => set(alloc, program, variable, place, value),
@@ -86,7 +86,7 @@ fn split(
     place: &Place<'_>,
     message: &Message,
 ) -> Result<Option<Life>, AllocError>
-    ensures { IfOk result (λ life. IsFit (code_of program.now) (ends_to (λ f g. Some (Begins (with_ends (start_of place.now) (set_end right g (set_end left f (ends_of place.now.ends.now)))))) (mail_of message.now)) life) }
+    ensures { IfOk result (λ life. IsFit (code_of program.now) (ends_to (λ f g. Some (Begins (with_ends (start_of place.now) (set_end right g (set_end left f (ends_of place.now.ends.now)))))) message.now) life) }
 {
     match message {
         Message::Ends(first, second) => {
@@ -138,7 +138,7 @@ fn offer(
     place: &Place<'_>,
     message: &Message,
 ) -> Result<Option<Life>, AllocError>
-    ensures { IfOk result (λ life. IsFit (code_of program.now) (pick_to (λ n. option_map (λ to. Begins (at_place (start_of place.now) to)) (slice_get targets.now n)) (mail_of message.now)) life) }
+    ensures { IfOk result (λ life. IsFit (code_of program.now) (pick_to (λ n. option_map (λ to. Begins (at_place (start_of place.now) to)) (slice_get targets.now n)) message.now) life) }
 {
     match message {
         Message::Pick(number) => go_to(alloc, program, at(targets, *number as usize), place),

@@ -3,7 +3,8 @@ ghost use Rattle.std.specs.Prelude.{◌≡◌, IfOk};
 ghost use Rattle.campl_cells.specs.Wants.{Begins, set_end};
 ghost use Rattle.campl_cells.specs.Steps.{IsLifeOf};
 ghost use Rattle.campl_parts.specs.Plans.{begun_of};
-ghost use Rattle.campl_parts.specs.Views.{code_of, life_of};
+ghost use Rattle.campl_eval.specs.View.{code_of};
+ghost use Rattle.campl_parts.specs.Views.{life_of};
 ghost use Rattle.campl_parts.specs.Wanted.{at_place, start_of, with_ends};
 
 use crate::ends::Ends;

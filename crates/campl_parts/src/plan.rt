@@ -4,8 +4,9 @@ ghost use Rattle.campl_value.specs.Tree.{Nil};
 ghost use Rattle.campl_cells.specs.Wants.{Begins, Spends, set_end};
 ghost use Rattle.campl_cells.specs.Steps.{IsChildOf, IsLifeOf};
 ghost use Rattle.campl_parts.specs.Ends.{ends_of};
-ghost use Rattle.campl_parts.specs.Plans.{IsPlanned, sending};
-ghost use Rattle.campl_parts.specs.Views.{code_of, held_of, life_of};
+ghost use Rattle.campl_parts.specs.Plans.{IsPlanned, begun_of};
+ghost use Rattle.campl_eval.specs.View.{code_of};
+ghost use Rattle.campl_parts.specs.Views.{held_of, life_of};
 ghost use Rattle.campl_parts.specs.Wanted.{at_place, called_start, move_of, row_vars, sent_of, start_of, with_ends, with_vars};
 
 use crate::ends::Ends;
@@ -48,7 +49,7 @@ impl Deed<'_> {
 
     // The message, and the end on which it is sent.
     fn message(&self) -> Result<Option<(u32, Message)>, AllocError>
-        ensures { IfOk result (λ send. sending send ≡ (move_of self.now).send) }
+        ensures { IfOk result (λ send. send ≡ (move_of self.now).send) }
     {
         match self {
             Deed::Sends { end, message, .. } => message.on(*end),
@@ -133,7 +134,7 @@ impl Deed<'_> {
 impl Sent<'_> {
     // The message, to be sent on this end.
     fn on(&self, end: u32) -> Result<Option<(u32, Message)>, AllocError>
-        ensures { IfOk result (λ send. sending send ≡ Some (end, sent_of self.now)) }
+        ensures { IfOk result (λ send. send ≡ Some (end, sent_of self.now)) }
     {
         match self {
             Sent::Pick(number) => Ok(Some((end, Message::Pick(*number)))),
@@ -195,13 +196,29 @@ impl Place<'_> {
     ) -> Result<Life, AllocError>
         ensures { IfOk result (λ life. IsLifeOf (code_of program.now) (Begins (with_vars (start_of self.now) (row_vars first values.now spots.now self.now.variables.now))) (life_of life)) }
     {
+        match self.with_row(alloc, first, values, spots) {
+            Ok(begun) => begun.begin(alloc, program),
+            Err(error) => Err(error),
+        }
+    }
+
+    // The place with copies and a row's variables.
+    fn with_row(
+        &self,
+        alloc: Global,
+        first: u32,
+        values: &[Value],
+        spots: &[Spot],
+    ) -> Result<Begun, AllocError>
+        ensures { IfOk result (λ begun. begun_of begun ≡ with_vars (start_of self.now) (row_vars first values.now spots.now self.now.variables.now)) }
+    {
         let mut begun = match self.copy(alloc) {
             Ok(begun) => begun,
             Err(error) => return Err(error),
         };
         match begun.variables.put_row(values, first, spots) {
-            RowEffect::Done => begun.begin(alloc, program),
-            RowEffect::Missing => self.begin(alloc, program),
+            RowEffect::Done => Ok(begun),
+            RowEffect::Missing => self.copy(alloc),
             RowEffect::OutOfMemory => Err(AllocError),
         }
     }
@@ -219,21 +236,35 @@ fn call(
 ) -> Result<Life, AllocError>
     ensures { IfOk result (λ life. IsLifeOf (code_of program.now) (Begins (called_start block missing values.now channels.now (ends_of ends.now))) (life_of life)) }
 {
-    let ends = match ends.handed(alloc, channels) {
+    match called(alloc, block, missing, values, channels, ends) {
+        Ok(begun) => begun.begin(alloc, program),
+        Err(error) => Err(error),
+    }
+}
+
+fn called(
+    alloc: Global,
+    block: usize,
+    missing: usize,
+    values: &[Value],
+    channels: &[u32],
+    ends: &Ends,
+) -> Result<Begun, AllocError>
+    ensures { IfOk result (λ begun. begun_of begun ≡ called_start block missing values.now channels.now (ends_of ends.now)) }
+{
+    let ends = match ends.given(alloc, channels) {
         Ok(ends) => ends,
         Err(error) => return Err(error),
     };
-    let variables = match called_variables(alloc, missing, values) {
-        Ok(variables) => variables,
-        Err(error) => return Err(error),
-    };
-    let begun = Begun {
-        block,
-        at: 0,
-        variables,
-        ends,
-    };
-    begun.begin(alloc, program)
+    match called_variables(alloc, missing, values) {
+        Ok(variables) => Ok(Begun {
+            block,
+            at: 0,
+            variables,
+            ends,
+        }),
+        Err(error) => Err(error),
+    }
 }
 
 // The variables of a called process: the values, and so many more.

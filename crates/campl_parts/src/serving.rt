@@ -1,11 +1,10 @@
 //! Steps of services.
-ghost use Rattle.std.specs.Prelude.{◌≡◌, ◌<◌, ◌≤◌, ◌^◌, Some, None, IfOk, OnOk, is_some};
+ghost use Rattle.std.specs.Prelude.{◌≡◌, ◌<◌, ◌≤◌, ◌^◌, Some, None, IfOk, OnOk, is_some, option_map};
 ghost use Rattle.campl_value.specs.Text.{chars_of};
 ghost use Rattle.campl_service.specs.Services as services;
 ghost use Rattle.campl_cells.specs.Wants.{serving_want};
-ghost use Rattle.campl_service.specs.declared.phase.Want.TheVariants as phase;
-ghost use Rattle.campl_parts.specs.Serving.{IsReady, IsRoomy, IsSuited, Hears, Says, is_request, is_text};
-ghost use Rattle.campl_parts.specs.Views.{mail_of, proc_of};
+ghost use Rattle.campl_parts.specs.Serving.{Goes, Hears, IsReady, IsRoomy, IsSuited, Says, is_request, is_text};
+ghost use Rattle.campl_parts.specs.Views.{life_of, proc_of};
 ghost use Rattle.campl_parts.specs.Wanted.{want_of};
 
 use crate::entry::Kind;
@@ -42,7 +41,10 @@ pub fn suits(alloc: Global, service: &Service, message: &Message) -> Result<bool
 {
     match service.wants() {
         Waits::Pick => Ok(is_request(message)),
-        Waits::Text => is_text(alloc, message),
+        Waits::Text => match is_text(alloc, message) {
+            Ok(is) => Ok(is),
+            Err(error) => Err(error),
+        },
         Waits::Send => Ok(false),
         Waits::Spent => Ok(false),
         Waits::Closed => Ok(false),
@@ -97,27 +99,43 @@ impl ProcPart {
     pub fn hear(&mut self, message: Message)
         requires few { self.old.steps < 2 ^ 62 }
         requires ready { IsReady self.old.life (Some message) }
-        ensures { Hears (mail_of message) (proc_of self.old) (proc_of self.new) }
+        ensures { Goes (proc_of self.old) (proc_of self.new) × Hears message (life_of self.old.life) (life_of self.new.life) }
     {
         self.steps += 1;
-        match &mut self.life {
-            Life::Serves(_, service) => hear(service, message),
-            Life::Ended => {}
-            Life::Runs(_) => {}
-        }
+        self.life.hear(message);
     }
 
     /// A service sends the next line of its script, one step later. It takes no memory.
-    pub fn say(&mut self) -> Message
+    pub fn say(&mut self) -> Option<Message>
         requires few { self.old.steps < 2 ^ 62 }
         requires ready { IsReady self.old.life None }
-        ensures { Says result (proc_of self.old) (proc_of self.new) }
+        ensures { Goes (proc_of self.old) (proc_of self.new) × Says result (life_of self.old.life) (life_of self.new.life) }
     {
         self.steps += 1;
-        match &mut self.life {
+        self.life.say()
+    }
+}
+
+impl Life {
+    fn hear(&mut self, message: Message)
+        requires { IsReady self.old (Some message) }
+        ensures { Hears message (life_of self.old) (life_of self.new) }
+    {
+        match self {
+            Life::Serves(_, service) => hear(service, message),
+            Life::Ended => drop(message),
+            Life::Runs(_) => drop(message),
+        }
+    }
+
+    fn say(&mut self) -> Option<Message>
+        requires { IsReady self.old None }
+        ensures { Says result (life_of self.old) (life_of self.new) }
+    {
+        match self {
             Life::Serves(_, service) => say(service),
-            Life::Ended => Message::Pick(0),
-            Life::Runs(_) => Message::Pick(0),
+            Life::Ended => None,
+            Life::Runs(_) => None,
         }
     }
 }
@@ -125,7 +143,7 @@ impl ProcPart {
 fn hear(service: &mut Service, message: Message)
     requires suits { services.Suits (services.want service.old.serving) (Some message) }
     requires room { 1 ≤ service.old.spare }
-    ensures { services.action service.old.serving (Some message) ≡ Some (service.new.serving, None) }
+    ensures { option_map (λ a. a.0) (services.action service.old.serving (Some message)) ≡ Some service.new.serving }
 {
     match service.act(Some(message)) {
         Ok(_) => {}
@@ -133,13 +151,13 @@ fn hear(service: &mut Service, message: Message)
     }
 }
 
-fn say(service: &mut Service) -> Message
-    requires sends { services.want service.old.serving ≡ phase.Send }
+fn say(service: &mut Service) -> Option<Message>
+    requires suits { services.Suits (services.want service.old.serving) None }
     requires room { 1 ≤ service.old.spare }
-    ensures { services.action service.old.serving None ≡ Some (service.new.serving, Some result) }
+    ensures { services.action service.old.serving None ≡ Some (service.new.serving, result) }
 {
     match service.act(None) {
-        Ok(Some(message)) => message,
-        _ => unreachable!(),
+        Ok(message) => message,
+        Err(_) => unreachable!(),
     }
 }

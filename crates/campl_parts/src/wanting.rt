@@ -1,32 +1,28 @@
 //! What a process does next, read off its part.
-ghost use Rattle.std.specs.Prelude.{◌≡◌, ◌+◌, ◌<◌, ◌^◌, None, is_some, length, option_map, slice_get};
-ghost use Rattle.campl_code.specs.Decisions.{chosen};
-ghost use Rattle.campl_code.specs.Decisions as decisions;
+ghost use Rattle.std.specs.Prelude.{◌≡◌, ◌+◌, ◌<◌, ◌^◌, Some, None, MatchOption, is_some, length, option_map, slice_get};
 ghost use Rattle.campl_code.specs.Instructions as i;
 ghost use Rattle.campl_code.specs.Instructions.{blocks};
-ghost use Rattle.campl_code.specs.Frames.{set_from};
-ghost use Rattle.campl_code_bodies.specs.Bodies.{receives_at};
-ghost use Rattle.campl_code_bodies.specs.Commands.{channel_at};
-ghost use Rattle.campl_instructions.specs.View.{view_decision, view_instr};
+ghost use Rattle.campl_instructions.specs.View.{view_instr};
 ghost use Rattle.campl_meaning.specs.States as k;
-ghost use Rattle.campl_cells.specs.Parts.{Runs, Word};
+ghost use Rattle.campl_value.specs.declared.message.Message.TheVariants.{Word};
+ghost use Rattle.campl_cells.specs.Parts.{Runs};
 ghost use Rattle.campl_cells.specs.Wants as w;
 ghost use Rattle.campl_cells.specs.Wants.{Links, at_instruction, end_at, onward, quiet, sends, start_at, wanted, with_found, with_one};
 ghost use Rattle.campl_parts.specs.Ends.{ends_of};
-ghost use Rattle.campl_parts.specs.Views.{code_of, drawn_of, held_of};
-ghost use Rattle.campl_parts.specs.Wanted.{all_there, block_of, done_of, start_of, want_of};
+ghost use Rattle.campl_eval.specs.View.{code_of};
+ghost use Rattle.campl_parts.specs.Views.{drawn_of, held_of};
+ghost use Rattle.campl_parts.specs.Wanted.{all_there, or_none, block_of, done_of, row_vars, start_of, want_of};
 
 use crate::entry::Kind;
 use crate::part::{Drawn, Running};
 use crate::place::Place;
 use crate::want::{Channel, Deed, Look, Sent, Want};
-use campl_instructions::{Decision, Instr, Spot, value_at};
+use campl_instructions::Instr;
 use campl_kept::Kept;
 use campl_operands::Variables;
 use campl_program::Program;
 use campl_tree::Side;
 use campl_value::Value;
-use sqlite_items::at;
 
 /// A process at its instruction, with its variables and the values of the instruction's expressions.
 #[derive(Clone, Copy)]
@@ -131,7 +127,7 @@ impl<'a> Ready<'a> {
     }
 
     // Another place of its block.
-    fn place(&self, at: usize) -> Place<'a>
+    pub(crate) fn place(&self, at: usize) -> Place<'a>
         ensures { start_of result ≡ start_at (held_of self.now.running.now) at self.now.variables.now (ends_of self.now.running.now.ends) }
     {
         Place {
@@ -143,7 +139,7 @@ impl<'a> Ready<'a> {
     }
 
     // The end of a channel that it holds.
-    fn end(&self, channel: u32) -> Option<u32>
+    pub(crate) fn end(&self, channel: u32) -> Option<u32>
         ensures { result ≡ (held_of self.now.running.now).ends channel }
     {
         self.running.ends.get(channel)
@@ -345,109 +341,6 @@ impl<'a> Ready<'a> {
         }
     }
 
-    fn race(&self, targets: &'a [u32]) -> Want<'a>
-        ensures { want_of result ≡ done_of self.now (i.Race targets.now) }
-    {
-        if !self.are_set(targets) {
-            return Want::Rests;
-        }
-        match at(targets, self.branch as usize) {
-            None => Want::Rests,
-            Some(to) => self.choose(*to),
-        }
-    }
-
-    // It goes on there, as its branch, where the channel has an end.
-    fn choose(&self, to: u32) -> Want<'a>
-        ensures { want_of result ≡ w.chooses (held_of self.now.running.now) (block_of self.now) self.now.variables.now self.now.branch (Some to) }
-    {
-        match self.end_at(to) {
-            None => Want::Rests,
-            Some(end) => Want::Looks {
-                kind: Kind::Choose(self.branch),
-                takes: false,
-                end,
-                look: Look::Chooses {
-                    place: self.place(to as usize),
-                },
-            },
-        }
-    }
-
-    fn are_set(&self, targets: &[u32]) -> bool
-        ensures { result ≡ w.are_set (block_of self.now) (held_of self.now.running.now).ends targets.now }
-    {
-        for to in targets {
-            if !self.is_set(*to) {
-                return false;
-            }
-        }
-        true
-    }
-
-    // Whether the channel that the instruction at a place waits on has an end.
-    fn is_set(&self, to: u32) -> bool
-        ensures { result ≡ is_some (end_at (held_of self.now.running.now).ends (channel_at (block_of self.now) to)) }
-    {
-        match self.end_at(to) {
-            None => false,
-            Some(_) => true,
-        }
-    }
-
-    // The end of the channel that the instruction at a place waits on.
-    fn end_at(&self, to: u32) -> Option<u32>
-        ensures { result ≡ end_at (held_of self.now.running.now).ends (channel_at (block_of self.now) to) }
-    {
-        match self.channel_at(to) {
-            None => None,
-            Some(channel) => self.end(channel),
-        }
-    }
-
-    fn channel_at(&self, to: u32) -> Option<u32>
-        ensures { result ≡ channel_at (block_of self.now) to }
-    {
-        match self.program.instr(self.running.block, to as usize) {
-            Some(instr) => awaited(instr),
-            None => None,
-        }
-    }
-
-    fn case(&self, decision: u32, first: u32, targets: &'a [u32]) -> Want<'a>
-        ensures { want_of result ≡ done_of self.now (i.Case decision first targets.now) }
-    {
-        match self.program.raw().decision(decision) {
-            None => Want::Rests,
-            Some(decision) => self.decide(decision, first, targets),
-        }
-    }
-
-    fn decide(&self, decision: &'a Decision, first: u32, targets: &'a [u32]) -> Want<'a>
-        ensures { want_of result ≡ with_found (chosen (view_decision decision.now).tree self.now.values.now) (λ r. with_found (slice_get targets.now r.0)
-            (λ to. quiet k.Case None (onward (held_of self.now.running.now) to (set_from first r.1 self.now.variables.now) (ends_of self.now.running.now.ends)))) }
-    {
-        let Some((row, spots)) = decision.find(self.values) else {
-            return Want::Rests;
-        };
-        if !are_there(self.values, spots) {
-            return Want::Rests;
-        }
-        match at(targets, row as usize) {
-            None => Want::Rests,
-            Some(to) => Want::Moves {
-                kind: Kind::Case,
-                end: None,
-                deed: Deed::Cases {
-                    place: self.place(*to as usize),
-                    first,
-                    values: self.values,
-                    spots,
-                },
-            },
-        }
-    }
-
     fn go(&self, process: u32, channels: &'a [u32]) -> Want<'a>
         ensures { want_of result ≡ done_of self.now (i.Go process channels.now) }
     {
@@ -466,37 +359,5 @@ impl<'a> Ready<'a> {
                 ends: &self.running.ends,
             },
         }
-    }
-}
-
-// The channel that an instruction waits on, if it does.
-fn awaited(instr: &Instr) -> Option<u32>
-    ensures { result ≡ receives_at (Some (view_instr instr.now)) }
-{
-    match instr {
-        Instr::Get(channel, _) => Some(*channel),
-        Instr::Offer(channel, _) => Some(*channel),
-        Instr::Split(channel, _, _) => Some(*channel),
-        _ => None,
-    }
-}
-
-fn are_there(values: &[Value], spots: &[Spot]) -> bool
-    ensures { result ≡ all_there values.now spots.now }
-{
-    for spot in spots {
-        if !is_there(values, spot.as_slice()) {
-            return false;
-        }
-    }
-    true
-}
-
-fn is_there(values: &[Value], spot: &[u32]) -> bool
-    ensures { result ≡ is_some (decisions.value_at values.now spot.now) }
-{
-    match value_at(values, spot) {
-        None => false,
-        Some(_) => true,
     }
 }

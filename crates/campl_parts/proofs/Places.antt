@@ -1,33 +1,8 @@
--- Functions that are changed at one number, and lists that are read by number.
-use Rattle.std.proofs.Common.{◌≡◌, ◌≢◌, ◌<◌, ◌⊎◌, inl, inr, ℕ, zero, suc, Bool, true, false, List, [], ◌∷◌, ◌++◌, Option, Some, length, set, eqb, refl, sym, ap, subst, ◌∙◌, eq-eqb, ne_eqb, eqb-true, cond, true≢false, arith, slice_get}
+-- Lists that are read by number, as functions that are changed at one number.
+use Rattle.std.proofs.Common.{◌≡◌, ◌≢◌, ◌<◌, ℕ, zero, suc, List, [], ◌∷◌, ◌++◌, Option, Some, length, set, refl, ap, arith, slice_get}
 use Rattle.std.proofs.Math.Path.{fun_ext}
 use Rattle.campl_cells.specs.Parts.{put}
-
-split : (b : Bool) → (b ≡ true) ⊎ (b ≡ false)
-split true = inl refl
-split false = inr refl
-
-pub same : (a b : ℕ) → (a ≡ b) ⊎ (a ≢ b)
-same a b = elim (split (eqb a b)) [
-  | inl e ↦ inl (eqb-true a b e)
-  | inr e ↦ inr (λ k. true≢false (sym (eq-eqb a b k) ∙ e))
-]
-
-pub put-here : {A : Type 0} (i : ℕ) (x : A) (f : ℕ → A) → put i x f i ≡ x
-put-here i x f = ap (λ b. cond b x (f i)) (eq-eqb i i refl)
-
-pub put-at : {A : Type 0} (i k : ℕ) (x : A) (f : ℕ → A) → i ≡ k → put i x f k ≡ x
-put-at i k x f e = ap (λ b. cond b x (f k)) (eq-eqb i k e)
-
-pub put-else : {A : Type 0} (i k : ℕ) (x : A) (f : ℕ → A) → i ≢ k → put i x f k ≡ f k
-put-else i k x f n = ap (λ b. cond b x (f k)) (ne_eqb i k n)
-
--- what holds at the number and elsewhere holds of the changed function
-pub put-both : {A : Type 0} (P : ℕ → A → Type 0) (i : ℕ) (x : A) (f : ℕ → A) (k : ℕ) → P i x → (i ≢ k → P k (f k)) → P k (put i x f k)
-put-both P i x f k h g = elim (same i k) [
-  | inl e ↦ subst (P k) (sym (put-at i k x f e)) (subst (λ z. P z x) e h)
-  | inr n ↦ subst (P k) (sym (put-else i k x f n)) (g n)
-]
+use Rattle.campl_cells.proofs.Puts.{put-both}
 
 -- a function that has x at i and is f elsewhere
 pub put-is : {A : Type 0} (i : ℕ) (x : A) (f g : ℕ → A) → g i ≡ x → ((k : ℕ) → i ≢ k → g k ≡ f k) → g ≡ put i x f
