@@ -20,19 +20,19 @@ pub there-are : (vs : List Tree) (spots : List Spot) → is_some (values_at vs s
 there-are vs [] = refl
 there-are vs (s ∷ spots) = first-there (value_at vs s) (values_at vs spots) ∙ ap (λ b. is_some (value_at vs s) && b) (there-are vs spots)
 
-chosen-found : (row : ℕ) (o : Option (List Tree)) → is_some o ≡ true → option_map (λ ts. (row, ts)) o ≡ Some (row, or_none o)
+chosen-found : (row : ℕ) (o : Option (List Tree)) → is_some o ≡ true → option_map {U = ℕ × List Tree} (λ ts. (row, ts)) o ≡ Some (row, or_none o)
 chosen-found row None h = absurd (true≢false (sym h))
 chosen-found row (Some ts) h = refl
 
-chosen-missing : (row : ℕ) (o : Option (List Tree)) → is_some o ≡ false → option_map (λ ts. (row, ts)) o ≡ None
+chosen-missing : (row : ℕ) (o : Option (List Tree)) → is_some o ≡ false → option_map {U = ℕ × List Tree} (λ ts. (row, ts)) o ≡ None
 chosen-missing row None h = refl
 chosen-missing row (Some ts) h = absurd (true≢false h)
 
 -- a row that was found is chosen where its values are there, and none is where not
-pub row-found : (row : ℕ) (vs : List Tree) (spots : List Spot) (o : Option (ℕ × List Tree)) → o ≡ option_map (λ ts. (row, ts)) (values_at vs spots) → all_there vs spots ≡ true → o ≡ Some (row, or_none (values_at vs spots))
+pub row-found : (row : ℕ) (vs : List Tree) (spots : List Spot) (o : Option (ℕ × List Tree)) → o ≡ option_map {U = ℕ × List Tree} (λ ts. (row, ts)) (values_at vs spots) → all_there vs spots ≡ true → o ≡ Some (row, or_none (values_at vs spots))
 row-found row vs spots o e h = e ∙ chosen-found row (values_at vs spots) (there-are vs spots ∙ h)
 
-pub row-missing : (row : ℕ) (vs : List Tree) (spots : List Spot) (o : Option (ℕ × List Tree)) → o ≡ option_map (λ ts. (row, ts)) (values_at vs spots) → all_there vs spots ≡ false → o ≡ None
+pub row-missing : (row : ℕ) (vs : List Tree) (spots : List Spot) (o : Option (ℕ × List Tree)) → o ≡ option_map {U = ℕ × List Tree} (λ ts. (row, ts)) (values_at vs spots) → all_there vs spots ≡ false → o ≡ None
 row-missing row vs spots o e h = e ∙ chosen-missing row (values_at vs spots) (there-are vs spots ∙ h)
 
 -- variables that a row set, and those where its values aren't there

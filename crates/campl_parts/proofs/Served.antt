@@ -55,7 +55,7 @@ no-text s (m.Ends a b) e = refl
 
 some-is : (o : Option (List ℕ)) → is_some o ≡ true → IsSome o
 some-is None e = absurd (true≢false (sym e))
-some-is (Some cs) e = tt
+some-is (Some cs) e = refl
 
 text-true : (message : Message) → is_text message ≡ true → Suits w.Text (Some message)
 text-true (m.Word v) e = some-is (chars_of v) e

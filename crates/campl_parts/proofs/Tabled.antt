@@ -1,5 +1,5 @@
 -- What the calls on the two tables make of them.
-use Rattle.std.proofs.Common.{◌≡◌, ◌≢◌, ◌<◌, ◌+◌, ◌*◌, ℕ, suc, List, [], ◌∷◌, ◌++◌, Option, Some, None, length, set, refl, sym, ap, ap₂, ◌∙◌, slice_get, option_map}
+use Rattle.std.proofs.Common.{arith, zero, ◌≡◌, ◌≢◌, ◌<◌, ◌+◌, ◌*◌, ℕ, suc, List, [], ◌∷◌, ◌++◌, Option, Some, None, length, set, refl, sym, ap, ap₂, ◌∙◌, slice_get, option_map}
 use Rattle.campl_value.specs.declared.message.Message.{Message}
 use Rattle.campl_parts.specs.declared.part.ProcPart.{ProcPart}
 use Rattle.campl_parts.specs.declared.inbox.EndPart.{EndPart}
@@ -15,7 +15,7 @@ pub channel-born : (es fs : List EndPart) (a b : EndPart) (n c : ℕ) → fs ≡
 channel-born es fs a b n c e l w x y =
     let two = read_push (option_map tip_of) (es ++ a ∷ []) b in
     let one = read_push (option_map tip_of) es a in
-    let k : length (es ++ a ∷ []) ≡ 2 * c + 1 = length-push es a ∙ (ap suc (sym l ∙ w)) in
+    let k : length (es ++ a ∷ []) ≡ 2 * c + 1 = omega (arith, length-push es a, l, w) in
     ap tips e ∙ two ∙ ap (λ f. put (length (es ++ a ∷ [])) (Some (tip_of b)) f) one
     ∙ (λ i. put (k i) (Some ((y ∙ ap joined_to w) i)) (put ((sym l ∙ w) i) (Some ((x ∙ ap (λ z. joined_to (z + 1)) w) i)) (tips es)))
 
@@ -42,3 +42,9 @@ joins-made t t1 t2 t3 t4 x y x2 y2 left right xy x2x x2y y2x y2y x2y2 h1 hl h2 h
     let two : t2 ≡ put y (Some bare) (put x (Some bare) t) = h2 ∙ ap (put y (Some bare)) h1 in
     let three : t3 ≡ put x2 (Some (meets (or_bare (t x2)) y2 (or_bare (t y)))) (put y (Some bare) (put x (Some bare) t)) = h3 ∙ ap₂ (λ (a : List Message) (f : ℕ → Option Tip). put x2 (Some (record { peer = Some y2; inbox = a })) f) (ap₂ ◌++◌ at_x2 at_y) two in
     h4 ∙ ap₂ (λ (a : List Message) (f : ℕ → Option Tip). put y2 (Some (record { peer = Some x2; inbox = a })) f) (ap₂ ◌++◌ at_y2 hl) three
+
+-- a process that is there has a number below their count
+pub there-below : (ps : List ProcPart) (i : ℕ) (q : Proc) → procs ps i ≡ Some q → i < length ps
+there-below [] i q h = absurd (let z : ⊥ = cc in z)
+there-below (x ∷ ps) zero q h = omega arith
+there-below (x ∷ ps) (suc i) q h = let l : i < length ps = there-below ps i q h in omega arith

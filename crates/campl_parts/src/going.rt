@@ -34,15 +34,18 @@ impl ProcPart {
         self.life = life;
     }
 
-    /// The child that it bears with its next step, where its own number is this.
-    pub fn bear(&self, number: u32, life: Life) -> ProcPart
-        requires { self.now.steps < 2 ^ 62 }
-        ensures { proc_of result ≡ newborn number (proc_of self.now) (life_of life) }
+    /// It goes on as this life, one step later, and bears a child, where its own number is this.
+    pub fn go_on_bearing(&mut self, number: u32, life: Life, child: Life) -> ProcPart
+        requires { self.old.steps < 2 ^ 62 }
+        ensures parent { proc_of self.new ≡ goes_on (proc_of self.old) (life_of life) }
+        ensures child { proc_of result ≡ newborn number (proc_of self.old) (life_of child) }
     {
+        self.steps += 1;
+        self.life = life;
         ProcPart {
-            life,
+            life: child,
             parent: number,
-            born: self.steps + 1,
+            born: self.steps,
             steps: 0,
         }
     }

@@ -1,14 +1,14 @@
 //! What a message is good for, made ready on copies.
-ghost use Rattle.std.specs.Prelude.{◌≡◌, IfOk, OnOk, Some, None, slice_get, slice_set, option_map};
+ghost use Rattle.std.specs.Prelude.{IfOk, Some, None, slice_get, slice_set, option_map};
 ghost use Rattle.std.specs.Option.{option_copied};
 ghost use Rattle.campl_cells.specs.Wants.{Begins, set_end, word_to, pick_to, ends_to};
 ghost use Rattle.campl_parts.specs.Ends.{ends_of};
-ghost use Rattle.campl_parts.specs.Plans.{IsFit, begun_of};
+ghost use Rattle.campl_parts.specs.Plans.{IsFit};
 ghost use Rattle.campl_eval.specs.View.{code_of};
 ghost use Rattle.campl_parts.specs.Wanted.{at_place, look_of, start_of, with_ends, with_vars};
 
 use crate::part::Life;
-use crate::place::{Begun, Place};
+use crate::place::Place;
 use crate::want::Look;
 use campl_program::Program;
 use campl_value::{Message, Value};
@@ -106,27 +106,9 @@ fn hold(
 ) -> Result<Option<Life>, AllocError>
     ensures { IfOk result (λ life. IsFit (code_of program.now) (Some (Begins (with_ends (start_of place.now) (set_end right.0 right.1 (set_end left.0 left.1 (ends_of place.now.ends.now)))))) life) }
 {
-    let mut begun = match place.copy(alloc) {
-        Ok(begun) => begun,
-        Err(error) => return Err(error),
-    };
-    match begun.hold(left, right) {
-        Ok(()) => {}
-        Err(error) => return Err(error),
-    }
-    match begun.begin(alloc, program) {
+    match place.begin_holding_two(alloc, program, left, right) {
         Ok(life) => Ok(Some(life)),
         Err(error) => Err(error),
-    }
-}
-
-impl Begun {
-    // Sets the ends of two channels.
-    fn hold(&mut self, left: (u32, u32), right: (u32, u32)) -> Result<(), AllocError>
-        ensures { OnOk result (begun_of self.new ≡ with_ends (begun_of self.old) (set_end right.0 right.1 (set_end left.0 left.1 (begun_of self.old).ends))) }
-    {
-        self.ends.set(left.0, left.1)?;
-        self.ends.set(right.0, right.1)
     }
 }
 

@@ -24,8 +24,6 @@ pub fn bear(processes: &mut Vec<ProcPart>, process: u32, life: Life, child: Life
     ensures goes { (q : Proc) → procs processes.old.items process ≡ Some q →
         procs processes.new.items ≡ put (vec_len processes.old) (Some (newborn process q (life_of child))) (put process (Some (goes_on q (life_of life))) (procs processes.old.items)) }
 {
-    let part = &mut processes[process as usize];
-    let child = part.bear(process, child);
-    part.go_on(life);
+    let child = processes[process as usize].go_on_bearing(process, life, child);
     processes.push_reserved(child);
 }

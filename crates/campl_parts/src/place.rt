@@ -74,6 +74,23 @@ impl<'a> Place<'a> {
         begun.ends.set(channel, end)?;
         begun.begin(alloc, program)
     }
+
+    /// A process that goes on there with two more ends, each with the number of its channel before it. An error means that memory
+    /// is out.
+    pub fn begin_holding_two(
+        &self,
+        alloc: Global,
+        program: &Program,
+        left: (u32, u32),
+        right: (u32, u32),
+    ) -> Result<Life, AllocError>
+        ensures { IfOk result (λ life. IsLifeOf (code_of program.now) (Begins (with_ends (start_of self.now) (set_end right.0 right.1 (set_end left.0 left.1 (start_of self.now).ends)))) (life_of life)) }
+    {
+        let mut begun = self.copy(alloc)?;
+        begun.ends.set(left.0, left.1)?;
+        begun.ends.set(right.0, right.1)?;
+        begun.begin(alloc, program)
+    }
 }
 
 impl Begun {

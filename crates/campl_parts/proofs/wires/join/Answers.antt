@@ -2,8 +2,6 @@ use Rattle.std.proofs.Common.{◌≡◌, ℕ, ap, ◌∙◌, Option, Some}
 use Rattle.campl_cells.specs.Parts.{Tip, bare, or_bare, put}
 use Rattle.campl_parts.specs.Tables.{tips}
 use Rattle.campl_parts.proofs.Tabled.{joins-made}
-use Rattle.campl_cells.specs.Parts.{written}
-use Rattle.campl_cells.specs.Steps.{tips_joined}
 use Rattle.campl_parts.proofs.wires.join.Goals as goal
 
 pub returns-clause-ok : goal.returns-clause-ok

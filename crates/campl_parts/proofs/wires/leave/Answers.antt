@@ -1,7 +1,7 @@
 use Rattle.std.proofs.Common.{arith, length, sym, ap, ◌∙◌, option_map}
 use Rattle.std.specs.VecDeque.{deque_len}
 use Rattle.std.proofs.lemmas.Option.{slice_get_read}
-use Rattle.campl_cells.specs.Parts.{Tip, or_bare}
+use Rattle.campl_cells.specs.Parts.{or_bare}
 use Rattle.campl_parts.specs.Views.{tip_of}
 use Rattle.campl_parts.proofs.Places.{set-else}
 use Rattle.campl_parts.proofs.Tabled.{left-bare}
