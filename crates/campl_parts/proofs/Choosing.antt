@@ -1,5 +1,5 @@
 -- Rows of a decision whose variables have values.
-use Rattle.std.proofs.Common.{◌≡◌, ℕ, Bool, true, false, ◌&&◌, List, [], ◌∷◌, ◌++◌, Option, Some, None, option_map, is_some, reverse, refl, sym, ap, subst, ◌∙◌, true≢false}
+use Rattle.std.proofs.Common.{◌≡◌, ℕ, true, false, ◌&&◌, List, [], ◌∷◌, ◌++◌, Option, Some, None, option_map, is_some, reverse, refl, sym, ap, subst, ◌∙◌, true≢false}
 use Rattle.std.proofs.lemmas.List.{reverse-append}
 use Rattle.campl_value.specs.Tree.{Tree}
 use Rattle.campl_code.specs.Decisions.{Spot, value_at, values_at, with_first}

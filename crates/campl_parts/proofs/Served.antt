@@ -1,5 +1,5 @@
 -- Which messages suit a service.
-use Rattle.std.proofs.Common.{◌≡◌, ◌<◌, ℕ, zero, suc, Bool, true, false, List, [], ◌∷◌, Option, Some, None, IsSome, is_some, option_map, refl, sym, ap, subst, ◌∙◌, true≢false, nat_lt, ltb-true}
+use Rattle.std.proofs.Common.{◌≡◌, ℕ, zero, suc, Bool, true, false, List, [], ◌∷◌, Option, Some, None, IsSome, is_some, option_map, refl, sym, ap, subst, ◌∙◌, true≢false, nat_lt, ltb-true}
 use Rattle.campl_value.specs.Text.{chars_of}
 use Rattle.campl_value.specs.declared.message.Message.{Message}
 use Rattle.campl_value.specs.declared.message.Message.TheVariants as m

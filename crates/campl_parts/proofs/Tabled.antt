@@ -1,11 +1,11 @@
 -- What the calls on the two tables make of them.
-use Rattle.std.proofs.Common.{arith, zero, ◌≡◌, ◌≢◌, ◌<◌, ◌+◌, ◌*◌, ℕ, suc, List, [], ◌∷◌, ◌++◌, Option, Some, None, length, set, refl, sym, ap, ap₂, ◌∙◌, slice_get, option_map}
+use Rattle.std.proofs.Common.{arith, zero, ◌≡◌, ◌≢◌, ◌<◌, ◌+◌, ◌*◌, ℕ, suc, List, [], ◌∷◌, ◌++◌, Option, Some, length, set, sym, ap, ap₂, ◌∙◌, option_map}
 use Rattle.campl_value.specs.declared.message.Message.{Message}
 use Rattle.campl_parts.specs.declared.part.ProcPart.{ProcPart}
 use Rattle.campl_parts.specs.declared.inbox.EndPart.{EndPart}
 use Rattle.campl_parts.specs.Views.{proc_of, tip_of}
 use Rattle.campl_parts.proofs.Places.{read_set, read_push, length-push}
-use Rattle.campl_cells.specs.Parts.{Proc, Tip, put, written, bare, or_bare, near, far}
+use Rattle.campl_cells.specs.Parts.{Proc, Tip, put, written, bare, or_bare}
 use Rattle.campl_cells.specs.Steps.{borne, joined_to, meets, tips_joined}
 use Rattle.campl_cells.proofs.Puts.{put-else}
 use Rattle.campl_parts.specs.Tables.{procs, tips}

@@ -1,10 +1,8 @@
 -- What is made ready for a step.
-use Rattle.std.specs.Prelude.{◌≡◌, ℕ, Option, Some, None, option_map}
+use Rattle.std.specs.Prelude.{◌≡◌, Option, Some, None, option_map}
 use Rattle.campl_code.specs.Instructions.{Code}
-use Rattle.campl_cells.specs.Parts.{Mail}
 use Rattle.campl_cells.specs.Wants.{Start, Next, Move}
 use Rattle.campl_cells.specs.Steps.{IsLifeOf, IsChildOf}
-use Rattle.campl_value.specs.declared.message.Message.{Message}
 use Rattle.campl_parts.specs.declared.part.Life.{Life}
 use Rattle.campl_parts.specs.declared.place.Begun.{Begun}
 use Rattle.campl_parts.specs.declared.plan.Planned.{Planned}

@@ -1,5 +1,4 @@
 -- The plain parts that those in memory are seen as.
-use Rattle.std.specs.Prelude.{ℕ, List, Option}
 use Rattle.campl_meaning.specs.States as k
 use Rattle.campl_kept.specs.View.{view_kept}
 use Rattle.campl_cells.specs.Parts as c

@@ -143,11 +143,7 @@ fn go_to(
     }
 }
 
-fn go_on(
-    alloc: Global,
-    program: &Program,
-    place: &Place<'_>,
-) -> Result<Option<Life>, AllocError>
+fn go_on(alloc: Global, program: &Program, place: &Place<'_>) -> Result<Option<Life>, AllocError>
     ensures { IfOk result (λ life. IsFit (code_of program.now) (Some (Begins (start_of place.now))) life) }
 {
     match place.begin(alloc, program) {

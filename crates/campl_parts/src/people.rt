@@ -21,6 +21,7 @@ pub fn go_on(processes: &mut Vec<ProcPart>, process: u32, life: Life)
 pub fn bear(processes: &mut Vec<ProcPart>, process: u32, life: Life, child: Life)
     requires there { IsThere (procs processes.old.items process) }
     requires room { vec_len processes.old < vec_capacity processes.old }
+    ensures len { vec_len processes.new ≡ suc (vec_len processes.old) }
     ensures goes { (q : Proc) → procs processes.old.items process ≡ Some q →
         procs processes.new.items ≡ put (vec_len processes.old) (Some (newborn process q (life_of child))) (put process (Some (goes_on q (life_of life))) (procs processes.old.items)) }
 {

@@ -67,7 +67,13 @@ impl<'a> Place<'a> {
     }
 
     /// A process that goes on there with one more end. An error means that memory is out.
-    pub fn begin_holding(&self, alloc: Global, program: &Program, channel: u32, end: u32) -> Result<Life, AllocError>
+    pub fn begin_holding(
+        &self,
+        alloc: Global,
+        program: &Program,
+        channel: u32,
+        end: u32,
+    ) -> Result<Life, AllocError>
         ensures { IfOk result (λ life. IsLifeOf (code_of program.now) (Begins (with_ends (start_of self.now) (set_end channel end (start_of self.now).ends))) (life_of life)) }
     {
         let mut begun = self.copy(alloc)?;

@@ -125,7 +125,10 @@ impl Deed<'_> {
                 ..
             } => place.begin_holding(alloc, program, *own, channel.near),
             Deed::Peels {
-                held, own, place, ..
+                held,
+                own,
+                place,
+                ..
             } => place.begin_holding(alloc, program, *held, *own),
         }
     }
@@ -179,7 +182,10 @@ impl Place<'_> {
     ) -> Result<Option<Life>, AllocError>
         ensures { IfOk result (λ child. IsChildOf (code_of program.now) (Some (with_ends (at_place (start_of self.now) to) (set_end channel end (start_of self.now).ends))) (option_map life_of child)) }
     {
-        match self.moved(to as usize).begin_holding(alloc, program, channel, end) {
+        match self
+            .moved(to as usize)
+            .begin_holding(alloc, program, channel, end)
+        {
             Ok(life) => Ok(Some(life)),
             Err(error) => Err(error),
         }

@@ -54,13 +54,7 @@ impl<'a> Ready<'a> {
         }
     }
 
-    fn go_to_row(
-        &self,
-        first: u32,
-        targets: &'a [u32],
-        row: u32,
-        spots: &'a [Spot],
-    ) -> Want<'a>
+    fn go_to_row(&self, first: u32, targets: &'a [u32], row: u32, spots: &'a [Spot]) -> Want<'a>
         ensures { want_of result ≡ with_found (slice_get targets.now row)
             (λ to. quiet k.Case None (onward (held_of self.now.running.now) to (row_vars first self.now.values.now spots.now self.now.variables.now) (ends_of self.now.running.now.ends))) }
     {

@@ -110,7 +110,10 @@ pub enum Deed<'a> {
 #[derive(Clone, Copy)]
 pub enum Look<'a> {
     /// A value, which becomes this variable's.
-    Gets { variable: u32, place: Place<'a> },
+    Gets {
+        variable: u32,
+        place: Place<'a>,
+    },
     /// Two ends, which become those of these channels.
     Splits {
         left: u32,
@@ -123,7 +126,9 @@ pub enum Look<'a> {
         place: Place<'a>,
     },
     /// Any message.
-    Chooses { place: Place<'a> },
+    Chooses {
+        place: Place<'a>,
+    },
 }
 
 /// What a process or service does next.
@@ -144,7 +149,10 @@ pub enum Want<'a> {
         look: Look<'a>,
     },
     /// It is an identity of two ends.
-    Links { end: u32, second: u32 },
+    Links {
+        end: u32,
+        second: u32,
+    },
     /// A service that waits for a message at its end.
     Hears {
         kind: Kind,
@@ -152,5 +160,8 @@ pub enum Want<'a> {
         service: &'a Service,
     },
     /// A service that sends the next line of its script.
-    Says { end: u32, service: &'a Service },
+    Says {
+        end: u32,
+        service: &'a Service,
+    },
 }

@@ -11,11 +11,7 @@ use std::alloc::{AllocError, Global};
 use std::collections::VecDeque;
 
 /// Takes the memory of so many more messages at an end, and changes nothing else.
-pub fn make_room_for(
-    ends: &mut Vec<EndPart>,
-    at: u32,
-    messages: usize,
-) -> Result<(), AllocError>
+pub fn make_room_for(ends: &mut Vec<EndPart>, at: u32, messages: usize) -> Result<(), AllocError>
     requires { at < vec_len ends.old }
     ensures len { vec_len ends.new ≡ vec_len ends.old }
     ensures capacity { vec_capacity ends.new ≡ vec_capacity ends.old }
@@ -90,13 +86,7 @@ fn messages(ends: &Vec<EndPart>, at: u32) -> usize
 }
 
 /// The ends x and y are given up, and their peers x2 and y2 become peers.
-pub fn join(
-    ends: &mut Vec<EndPart>,
-    x: u32,
-    y: u32,
-    x2: u32,
-    y2: u32,
-) -> Result<(), AllocError>
+pub fn join(ends: &mut Vec<EndPart>, x: u32, y: u32, x2: u32, y2: u32) -> Result<(), AllocError>
     requires x { x < vec_len ends.old }
     requires y { y < vec_len ends.old }
     requires x2 { x2 < vec_len ends.old }

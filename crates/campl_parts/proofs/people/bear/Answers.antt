@@ -6,8 +6,8 @@ use Rattle.campl_parts.specs.Views.{life_of, proc_of}
 use Rattle.campl_parts.proofs.Tabled.{child-born, there-below}
 use Rattle.campl_parts.proofs.people.bear.Goals as goal
 
-pub returns : goal.returns
-returns c q h =
+pub returns-clause-goes : goal.returns-clause-goes
+returns-clause-goes c q h =
     let ps = c.args.processes.now.items in
     let p = c.args.process in
     let now = c.index_mut.result.now in
