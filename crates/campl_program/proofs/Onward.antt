@@ -6,18 +6,11 @@ use Rattle.campl_code.specs.Instructions as i
 use Rattle.campl_code.specs.Instructions.{Instr, Block, Code, blocks}
 use Rattle.campl_code.specs.Forward.{AllAbove, Ahead, AllAhead, IsForward}
 use Rattle.campl_program.specs.Onward.{all_above, jumps_onward, all_onward, blocks_onward}
-
-first : (a b : Bool) → (a && b) ≡ true → a ≡ true
-first true b e = refl
-first false b e = e
-
-second : (a b : Bool) → (a && b) ≡ true → b ≡ true
-second true b e = e
-second false b e = absurd cc
+use Rattle.campl_types.proofs.Truth.{and-first, and-second}
 
 above : (p : ℕ) (ns : List ℕ) → all_above p ns ≡ true → AllAbove p ns
 above p [] e = tt
-above p (n ∷ ns) e = (ltb-true p n (first _ _ e), above p ns (second _ _ e))
+above p (n ∷ ns) e = (ltb-true p n (and-first _ _ e), above p ns (and-second _ _ e))
 
 ahead : (p : ℕ) (x : Instr) → jumps_onward p x ≡ true → Ahead p x
 ahead p (i.Jump to) e = ltb-true p to e
@@ -52,12 +45,12 @@ ahead p (i.Go q channels) e = tt
 
 all-ahead : (p : ℕ) (code : List Instr) → all_onward p code ≡ true → AllAhead p code
 all-ahead p [] e = tt
-all-ahead p (x ∷ code) e = (ahead p x (first _ _ e), all-ahead (p + 1) code (second _ _ e))
+all-ahead p (x ∷ code) e = (ahead p x (and-first _ _ e), all-ahead (p + 1) code (and-second _ _ e))
 
 block-ahead : (bs : List Block) → blocks_onward bs ≡ true → (n : ℕ) (b : Block) → slice_get bs n ≡ Some b → AllAhead 0 b.code
 block-ahead [] e n b h = absurd cc
-block-ahead (c ∷ bs) e zero b h = let s : c ≡ b = cc in rw (sym s) (all-ahead 0 c.code (first _ _ e))
-block-ahead (c ∷ bs) e (suc n) b h = block-ahead bs (second _ _ e) n b h
+block-ahead (c ∷ bs) e zero b h = let s : c ≡ b = cc in rw (sym s) (all-ahead 0 c.code (and-first _ _ e))
+block-ahead (c ∷ bs) e (suc n) b h = block-ahead bs (and-second _ _ e) n b h
 
 -- each jump leads onward
 pub onward-forward : (code : Code) → blocks_onward (blocks code) ≡ true → IsForward code
