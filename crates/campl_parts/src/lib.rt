@@ -1,7 +1,7 @@
 //! Configurations in memory: their processes and ends, and what a step reads and changes of them.
 //!
 //! - `part` has processes, `ends` the ends that they hold, and `inbox` the ends of channels with the messages at them.
-//! - `wanting` finds what a process does next: [`Running::want`] reads its part alone and takes no memory. `races` and `rows` are parts of it, `want`
+//! - `wanting` finds what a process does next: [`Running::want`] reads its part alone and takes no memory. `races`, `rows` and `frames` are parts of it, `want`
 //!   and `place` have the data for it.
 //! - `plan` and `look` make ready what a step needs, on copies; what has no failure left is done to the parts at last.
 //! - `going` and `serving` do to a process's part what a step does; `tables`, `wires` and `people` read and change the tables of ends
@@ -11,6 +11,7 @@
 
 mod ends;
 mod entry;
+mod frames;
 mod going;
 mod inbox;
 mod journal;

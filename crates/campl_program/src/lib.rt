@@ -12,7 +12,6 @@
 #![tactic(auto)]
 
 mod forward;
-mod processes;
 mod program;
 mod sizes;
 

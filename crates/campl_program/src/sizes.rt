@@ -20,7 +20,7 @@ pub(crate) fn frame_sizes(alloc: Global, code: &RawCode) -> Result<Items<usize>,
     Ok(sizes)
 }
 
-pub(crate) fn frame_size(code: &RawCode, block: &Block) -> usize
+fn frame_size(code: &RawCode, block: &Block) -> usize
     ensures { result ≡ frame.frame_size (view_code code.now).decisions (view_block block.now) }
 {
     (block.variables as usize).max(named_in(code, block.code.as_slice()))
