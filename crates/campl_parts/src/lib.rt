@@ -1,11 +1,11 @@
-//! Configurations in memory: their processes and ends, and what a step reads and changes of them.
+//! The parts of configurations in memory: their processes and ends, and what a step reads and changes of them.
 //!
 //! - `part` has processes, `ends` the ends that they hold, and `inbox` the ends of channels with the messages at them.
-//! - `wanting` finds what a process does next: [`Running::want`] reads its part alone and takes no memory. `races`, `rows` and `frames` are parts of it, `want`
-//!   and `place` have the data for it.
-//! - `plan` and `look` make ready what a step needs, on copies; what has no failure left is done to the parts at last.
-//! - `going` and `serving` do to a process's part what a step does; `tables`, `wires` and `people` read and change the tables of ends
-//!   and of processes.
+//! - `going` and `wanting` find what a process or service does next: [`ProcPart::want`] reads its part alone and takes no memory.
+//!   `races`, `rows` and `frames` belong to it; `want` and `place` have the data for it.
+//! - `plan` and `look` make ready on copies what a step needs, so that nothing that comes later can fail.
+//! - `going` and `serving` then do to a process's part what the step does, `inbox` to an end; `people` and `wires` do the same at a
+//!   place of the tables of processes and of ends, which `tables` reads.
 //! - `entry` and `journal` tell what was done.
 #![tactic(auto)]
 
