@@ -1,0 +1,5 @@
+pub mod Choosing
+pub mod Padded
+pub mod Places
+pub mod Served
+pub mod Tabled

@@ -1,0 +1,7 @@
+pub mod Ends
+pub mod Journal
+pub mod Plans
+pub mod Serving
+pub mod Tables
+pub mod Views
+pub mod Wanted
