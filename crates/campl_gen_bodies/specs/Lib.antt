@@ -1,0 +1,4 @@
+pub mod Making
+pub mod Channels
+pub mod Commands
+pub mod Peels
