@@ -32,11 +32,12 @@ use Rattle.campl_code_bodies.specs.BodySizes.{hcase_size, race_size, cases_size,
 use Rattle.campl_gen_exprs.proofs.Places.{set-there}
 use Rattle.campl_gen_exprs.specs.Emission.{emitted, emitted_all, binding}
 use Rattle.campl_gen_functions.specs.Deciding.{decided}
-use Rattle.campl_gen_bodies.specs.Channels.{NumbersAlike}
+use Rattle.campl_gen_channels.specs.Numbers.{NumbersAlike}
+use Rattle.campl_gen_channels.proofs.Alike.{alike-itself}
 use Rattle.campl_gen_bodies.specs.Making.{Making, pushed, patched, valued, all_valued, received, entered, kept, whole, added, bare, built}
 use Rattle.campl_gen_bodies.specs.Commands.{halted, called, rows_built, row_starts, row_numbers, start_at, count_numbers, offer_places, hcase_built, race_built, case_row_built, cases_built, case_starts as starts_of_cases, decision_put, case_closed, case_built, first_held, second_held, fork_built}
 use Rattle.campl_gen_bodies.specs.Peels.{link_of, child_built, child_held, rest_held, peeled_child, peels_built}
-use Rattle.campl_gen_bodies.proofs.Alike.{alike-itself, hcase-alike, hcase-starts-alike, race-alike, race-starts-alike, case-alike, case-starts-alike, peels-alike, picked-fit, all-fit, whole-alike, whole-same}
+use Rattle.campl_gen_bodies.proofs.Alike.{hcase-alike, hcase-starts-alike, race-alike, race-starts-alike, case-alike, case-starts-alike, peels-alike, picked-fit, all-fit, whole-alike, whole-same}
 
 -- States
 

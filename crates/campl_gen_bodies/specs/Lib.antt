@@ -1,4 +1,3 @@
 pub mod Making
-pub mod Channels
 pub mod Commands
 pub mod Peels
