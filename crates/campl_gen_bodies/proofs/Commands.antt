@@ -31,7 +31,7 @@ use Rattle.campl_code_bodies.specs.BodyCode.{Made, prefixed, alone, joined, numb
 use Rattle.campl_code_bodies.specs.BodySizes.{hcase_size, race_size, cases_size, parts_size, body_size}
 use Rattle.campl_gen_exprs.proofs.Places.{set-there}
 use Rattle.campl_gen_exprs.specs.Emission.{emitted, emitted_all, binding}
-use Rattle.campl_gen_functions.specs.Deciding.{decided}
+use Rattle.campl_gen_functions.specs.Deciding.{decided, decided_all}
 use Rattle.campl_gen_channels.specs.Numbers.{NumbersAlike}
 use Rattle.campl_gen_channels.proofs.Alike.{alike-itself}
 use Rattle.campl_gen_bodies.specs.Making.{Making, pushed, patched, valued, all_valued, received, entered, kept, whole, added, bare, built}
@@ -86,7 +86,7 @@ abbrev values-code : World → Exprs → Making → List Instr
 values-code w args s = code_of_all w args (length s.emission.code) s.emission.decisions s.emission.free s.emission.numbers
 
 all-valued-is : (w : World) (args : Exprs) (s : Making) → all_valued w args s ≡ added (alone (values-code w args s) (decisions_of_all w args)) s
-unfolding emitted_all
+unfolding emitted_all decided_all
 all-valued-is w args s =
     same-state s.emission.free s.emission.numbers (s.emission.code ++ values-code w args s) (s.emission.code ++ values-code w args s)
     (s.emission.decisions + cases_in_all args) (s.emission.decisions + length (decisions_of_all w args)) (s.decisions ++ decisions_of_all w args) (s.decisions ++ decisions_of_all w args)
@@ -150,8 +150,10 @@ module _ (w : World) (rest : Body) (at : Place) (next : ℕ) (cs : Channels) (s 
   get-so v x =
       let y = i.Get (number x.name cs) s.emission.free in
       let z : s.emission.decisions + 0 ≡ s.emission.decisions = omega arith in
+      let f : s.emission.free + 1 ≡ suc s.emission.free = omega arith in
       bare-behind w rest next cs (received v (pushed (y ∷ []) s)) s (alone (y ∷ []) []) (ap bare (pushed-is (y ∷ []) s))
-      ∙ ap (λ d. bare (added (joined (alone (y ∷ []) []) (whole w rest (length s.emission.code + 1) d (suc s.emission.free) (binds v s.emission.free s.emission.numbers) next cs)) s)) z
+      ∙ ap (λ d. bare (added (joined (alone (y ∷ []) []) (whole w rest (length s.emission.code + 1) d (s.emission.free + 1) (binds v s.emission.free s.emission.numbers) next cs)) s)) z
+      ∙ ap (λ n. bare (added (joined (alone (y ∷ []) []) (whole w rest (length s.emission.code + 1) s.emission.decisions n (binds v s.emission.free s.emission.numbers) next cs)) s)) f
 
   pub hput-so : (k x : Ident) → bare (built w rest next cs (pushed (i.Pick (number x.name cs) (or_zero (number_of w k.name)) ∷ []) s)) ≡ bare (built w (b.Then (b.Hput at k x) rest) next cs s)
   unfolding built
@@ -402,7 +404,7 @@ module _ (w : World) (at : Place) (next : ℕ) (cs : Channels) (s : Making) wher
 
 -- Plugs
 
-peels-are : (w : World) (links : List Link) (parts : Parts) (next : ℕ) (cs : Channels) (s : Making)
+pub peels-are : (w : World) (links : List Link) (parts : Parts) (next : ℕ) (cs : Channels) (s : Making)
     → peels_built w links parts next cs s ≡ added (peels_made (whole w) links parts (length s.emission.code) s.emission.decisions s.emission.free s.emission.numbers next cs) s
 unfolding built
 peels-are w links b.no_parts next cs s = sym (added-none s)

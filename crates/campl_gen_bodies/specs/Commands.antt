@@ -1,5 +1,5 @@
 -- The last commands of bodies in the steps in which they are emitted. A place that isn't known yet is written when it is.
-use Rattle.std.specs.Prelude.{ℕ, suc, ◌+◌, false, not, max, List, [], ◌∷◌, ◌++◌, Option, Some, None, if◌then◌else◌, length}
+use Rattle.std.specs.Prelude.{ℕ, suc, ◌+◌, false, not, max, List, [], ◌∷◌, ◌++◌, Option, Some, None, if◌then◌else◌, length, slice_set}
 use Rattle.campl_tree.specs.declared.place.Ident.{Ident}
 use Rattle.campl_tree.specs.Plain.Expr.{Expr, Exprs}
 use Rattle.campl_tree.specs.Plain.Pattern.{Pattern}
@@ -57,6 +57,14 @@ count_numbers (k ∷ ks) = max (suc (or_zero k)) (count_numbers ks)
 -- a place for each constructor
 abbrev pub offer_places : List (Option ℕ) → List ℕ → List ℕ
 offer_places ks starts = listed (start_at ks starts) 0 (count_numbers ks)
+
+-- the place of a number is written, where there is one
+abbrev pub placed : Option ℕ → (start : ℕ) → List ℕ → List ℕ
+placed None start places = places
+placed (Some n) start places = slice_set places n start
+
+abbrev pub no_places : ℕ → ℕ
+no_places n = 0
 
 abbrev pub hcase_built : World → Ident → List (Ident × Body) → (next : ℕ) → Channels → Making → Making
 hcase_built w x rows next cs s =

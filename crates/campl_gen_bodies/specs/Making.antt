@@ -1,19 +1,18 @@
 -- The code of bodies in the steps in which it is emitted. The word of the definition is closed here, so that a proof about code
 -- sees each command's own equation; `proofs/Commands` has them.
-use Rattle.std.specs.Prelude.{ℕ, suc, ◌+◌, false, List, [], ◌++◌, length}
+use Rattle.std.specs.Prelude.{ℕ, ◌+◌, false, List, [], ◌++◌, length}
 use Rattle.campl_tree.specs.declared.process.Binder.{Binder}
 use Rattle.campl_tree.specs.Plain.Expr.{Expr, Exprs}
 use Rattle.campl_tree.specs.Plain.Pattern.{Pattern}
 use Rattle.campl_tree.specs.Plain.Process.{Body}
 use Rattle.campl_types.specs.World.{World}
-use Rattle.campl_code.specs.CaseDecisions.{decisions_of_all}
 use Rattle.campl_code.specs.Decisions.{Decision}
 use Rattle.campl_code.specs.Instructions.{Instr}
 use Rattle.campl_code_bodies.specs.Bodies.{Channels, binds}
 use Rattle.campl_code_bodies.specs.BodyCode.{Made, Maker, body_made}
 use Rattle.campl_code_bodies.specs.BodySizes.{body_size}
-use Rattle.campl_gen_exprs.specs.Emission.{Emission, appended, replaced, emitted, emitted_all, binding, left}
-use Rattle.campl_gen_functions.specs.Deciding.{decided}
+use Rattle.campl_gen_exprs.specs.Emission.{Emission, appended, replaced, emitted, emitted_all, binding, left, shortened}
+use Rattle.campl_gen_functions.specs.Deciding.{decided, decided_all}
 
 -- what is made so far: the code, with the numbers that come next, and the decisions
 pub record Making : Type 0 where
@@ -36,11 +35,11 @@ valued w a s = record { emission = emitted w false a s.emission; decisions = s.d
 
 -- the values of expressions
 abbrev pub all_valued : World → Exprs → Making → Making
-all_valued w args s = record { emission = emitted_all w args s.emission; decisions = s.decisions ++ decisions_of_all w args }
+all_valued w args s = record { emission = emitted_all w args s.emission; decisions = s.decisions ++ decided_all w args }
 
 -- a value that comes has the next variable's number, and its name, where it has one, is in scope
 abbrev pub received : Binder → Making → Making
-received v s = record s { emission = record s.emission { free = suc s.emission.free; numbers = binds v s.emission.free s.emission.numbers } }
+received v s = record s { emission = record s.emission { free = s.emission.free + 1; numbers = binds v s.emission.free s.emission.numbers } }
 
 -- the variables of a pattern are in scope
 abbrev pub entered : Pattern → Making → Making
@@ -49,6 +48,10 @@ entered p s = record s { emission = binding p s.emission }
 -- the variables in scope are those of before
 abbrev pub kept : Making → Making → Making
 kept before s = record s { emission = left before.emission s.emission }
+
+-- the newest variables go down to so many, and their numbers from this one on
+abbrev pub left_at : (variables free : ℕ) → Making → Making
+left_at variables free s = record s { emission = shortened variables free s.emission }
 
 -- code and decisions alone
 abbrev pub bare : Making → Making

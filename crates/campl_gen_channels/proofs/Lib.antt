@@ -1,2 +1,4 @@
 pub mod Alike
 pub mod Maps
+pub mod Orders
+pub mod InHeaders

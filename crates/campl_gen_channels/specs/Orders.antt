@@ -1,5 +1,6 @@
 -- A plug's parts in the order of their peels, as a list.
-use Rattle.std.specs.Prelude.{ℕ, zero, suc, List, [], ◌∷◌, Option, Some, None, slice_get}
+use Rattle.std.specs.Prelude.{ℕ, ◌-◌, ◌==◌, List, [], ◌∷◌, Option, Some, None, if◌then◌else◌, slice_get}
+use Rattle.std.specs.Borrow.{Bor}
 use Rattle.campl_tree.specs.declared.place.Ident.{Ident}
 use Rattle.campl_tree.specs.declared.service.Side.{Side}
 use Rattle.campl_tree.specs.declared.service.Side.TheVariants.{Input, Output}
@@ -19,8 +20,7 @@ put_before None rest = rest
 put_before (Some x) rest = x ∷ rest
 
 abbrev pub item_at : {A : Type 0} → List A → ℕ → Option A
-item_at xs zero = None
-item_at xs (suc n) = slice_get xs n
+item_at xs n = if n == 0 then None else slice_get xs (n - 1)
 
 -- the items of these numbers
 abbrev pub items_at : {A : Type 0} → List A → List ℕ → List A
@@ -28,6 +28,5 @@ items_at xs [] = []
 items_at xs (n ∷ ns) = put_before (item_at xs n) (items_at xs ns)
 
 -- a part by reference, as the definitions see it
-abbrev pub view_parts : List Part → List (Header × Body)
-view_parts [] = []
-view_parts (p ∷ parts) = view_part p ∷ view_parts parts
+abbrev pub view_part_at : Bor Part → Header × Body
+view_part_at p = view_part p.now

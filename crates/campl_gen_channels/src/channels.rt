@@ -89,6 +89,24 @@ impl Channels {
         Ok(number)
     }
 
+    /// Takes the next number for a channel that another process holds.
+    ///
+    /// # Errors
+    ///
+    /// `AllocError` where the next number would be 2^32.
+    pub fn skip(&mut self) -> Result<(), AllocError>
+        ensures same { view_channels self.new ≡ view_channels self.old }
+        ensures next { OnOk result (self.new.next ≡ suc self.old.next) }
+    {
+        match number_behind(self.next) {
+            Ok(next) => {
+                self.next = next;
+                Ok(())
+            }
+            Err(error) => Err(error),
+        }
+    }
+
     /// Holds channels with the next numbers, in order. Where one has a name that is there already, that stays.
     ///
     /// # Errors

@@ -12,5 +12,9 @@
 #![tactic(auto)]
 
 mod channels;
+mod headers;
+mod order;
 
 pub use channels::Channels;
+pub use headers::{header_names, side_in, stands_among, stands_in};
+pub use order::last_first;
