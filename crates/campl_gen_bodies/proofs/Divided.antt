@@ -48,5 +48,3 @@ second-so x left right next cs h names told same =
     (alike-on h (((out-Branch right).channel.name, suc next) ∷ those (is_kept false names) (without x.name cs)) (((out-Branch right).channel.name, suc next) ∷ those (λ c. not (is_free c (view_body (out-Branch left).body))) (without x.name cs)) same
     (alike-more (out-Branch right).channel.name (suc next) (those (is_kept false names) (without x.name cs)) (those (λ c. not (is_free c (view_body (out-Branch left).body))) (without x.name cs))
     (those-so (is_kept false names) (λ c. not (is_free c (view_body (out-Branch left).body))) (without x.name cs) (λ c. ap not (told c)))))
-
-pub ruleset halves = (first-so, second-so)

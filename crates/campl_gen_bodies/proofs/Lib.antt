@@ -10,3 +10,4 @@ pub mod Offering
 pub mod Peeled
 pub mod Sizes
 pub mod Forgotten
+pub mod Children

@@ -1,5 +1,5 @@
 -- Places by the numbers of constructors.
-use Rattle.std.proofs.Common.{◌≡◌, ◌∙◌, refl, sym, ap, ℕ, zero, suc, ◌+◌, ◌<◌, ◌≤◌, Bool, true, false, max, List, [], ◌∷◌, ◌++◌, map, Option, Some, None, if◌then◌else◌, eqb, eqb-true, eq-eqb, ne_eqb, length, drop, get_or, slice_set, arith}
+use Rattle.std.proofs.Common.{◌≡◌, ◌∙◌, refl, sym, ap, ℕ, zero, suc, ◌+◌, ◌<◌, ◌≤◌, Bool, true, false, max, List, [], ◌∷◌, ◌++◌, map, Option, Some, None, if◌then◌else◌, eqb, eqb-true, eq-eqb, ne_eqb, length, drop, get_or, slice_get, slice_set, inl, inr, ◌⊎◌, arith}
 use Rattle.std.proofs.lemmas.List.{drop_all, drop_more}
 use Rattle.campl_tree.specs.declared.place.Ident.{Ident}
 use Rattle.campl_tree.specs.declared.process.HcaseRow.{HcaseRow}
@@ -10,7 +10,7 @@ use Rattle.campl_types.specs.World.{World}
 use Rattle.campl_types.specs.Matching.{number_of, is_number}
 use Rattle.campl_code.specs.Generated.{or_zero}
 use Rattle.campl_code_bodies.specs.BodyCode.{listed}
-use Rattle.campl_gen_bodies.specs.Commands.{row_numbers, start_at, count_numbers, offer_places, placed, no_places}
+use Rattle.campl_gen_bodies.specs.Commands.{row_numbers, start_at, count_numbers, offer_places, placed, placed_row, no_places}
 
 drop-at : {A : Type 0} (xs : List A) (n : ℕ) (x : A) → n < length xs → x ≡ get_or xs n x → drop n xs ≡ x ∷ drop (n + 1) xs
 drop-at xs n x l is = drop_more xs n x l ∙ ap (λ y. y ∷ drop (n + 1) xs) (sym is)
@@ -56,28 +56,63 @@ placed-listed : (k : Option ℕ) (p : ℕ) (f : ℕ → ℕ) (count : ℕ) → p
 placed-listed None p f count = refl
 placed-listed (Some m) p f count = let same : m + 0 ≡ m = omega arith in set-listed f p m 0 count ∙ ap (λ k. listed (given k p f) 0 count) same
 
--- one row more, from behind
-pub placed-at : (ks : List (Option ℕ)) (starts : List ℕ) (count n : ℕ) (k : Option ℕ) (p : ℕ) → n < length ks → k ≡ get_or ks n k → n < length starts → p ≡ get_or starts n p
-    → placed k p (listed (start_at (drop (n + 1) ks) (drop (n + 1) starts)) 0 count) ≡ listed (start_at (drop n ks) (drop n starts)) 0 count
-placed-at ks starts count n k p l is m it =
-    placed-listed k p (start_at (drop (n + 1) ks) (drop (n + 1) starts)) count
-    ∙ sym (ap (λ d. listed (start_at d (drop n starts)) 0 count) (drop-at ks n k l is) ∙ ap (λ d. listed (start_at (k ∷ drop (n + 1) ks) d) 0 count) (drop-at starts n p m it))
-
 no-start : (ks : List (Option ℕ)) (n : ℕ) → start_at ks [] n ≡ 0
 no-start [] n = refl
 no-start (k ∷ ks) n = refl
 
--- a row without a place
-pub skipped-at : (ks : List (Option ℕ)) (starts : List ℕ) (count n : ℕ) → length starts ≤ n → listed (start_at (drop (n + 1) ks) (drop (n + 1) starts)) 0 count ≡ listed (start_at (drop n ks) (drop n starts)) 0 count
-skipped-at ks starts count n l =
-    ap (λ d. listed (start_at (drop (n + 1) ks) d) 0 count) (drop_all (n + 1) starts (omega (arith, l)))
-    ∙ listed-same (start_at (drop (n + 1) ks) []) (start_at (drop n ks) []) count (λ m. no-start (drop (n + 1) ks) m ∙ sym (no-start (drop n ks) m))
-    ∙ ap (λ d. listed (start_at (drop n ks) d) 0 count) (sym (drop_all n starts l))
+-- what stands at a place, and what is behind it
+found-at : {A : Type 0} (xs : List A) (n : ℕ) → n < length xs → (x : A) × (slice_get xs n ≡ Some x) × (drop n xs ≡ x ∷ drop (suc n) xs)
+found-at [] n l = absurd (let none : ⊥ = omega (arith, l) in none)
+found-at (x ∷ xs) zero l = (x, refl, refl)
+found-at (x ∷ xs) (suc n) l = found-at xs n (omega (arith, l))
+
+nothing-at : {A : Type 0} (xs : List A) (n : ℕ) → length xs ≤ n → slice_get xs n ≡ None
+nothing-at [] n l = refl
+nothing-at (x ∷ xs) zero l = absurd (let none : ⊥ = omega (arith, l) in none)
+nothing-at (x ∷ xs) (suc n) l = nothing-at xs n (omega (arith, l))
+
+-- a list ends before a place, or goes on there
+ends-or-not : {A : Type 0} (xs : List A) (n : ℕ) → (length xs ≤ n) ⊎ (n < length xs)
+ends-or-not [] n = inl (omega arith)
+ends-or-not (x ∷ xs) zero = inr (omega arith)
+ends-or-not (x ∷ xs) (suc n) = go (ends-or-not xs n)
+  where
+    go : (length xs ≤ n) ⊎ (n < length xs) → (suc (length xs) ≤ suc n) ⊎ (suc n < suc (length xs))
+    go (inl l) = inl (omega (arith, l))
+    go (inr l) = inr (omega (arith, l))
+
+module _ (ks : List (Option ℕ)) (starts : List ℕ) (count n m : ℕ) (one : m ≡ n + 1) where
+  with-start : (k : Option ℕ) (p : ℕ) → slice_get ks n ≡ Some k → drop n ks ≡ k ∷ drop (suc n) ks → slice_get starts n ≡ Some p → drop n starts ≡ p ∷ drop (suc n) starts
+      → placed_row (slice_get ks n) (slice_get starts n) (listed (start_at (drop m ks) (drop m starts)) 0 count) ≡ listed (start_at (drop n ks) (drop n starts)) 0 count
+  with-start k p is from its behind =
+      let up : m ≡ suc n = omega (arith, one) in
+      ap (λ o. placed_row o (slice_get starts n) (listed (start_at (drop m ks) (drop m starts)) 0 count)) is
+      ∙ ap (λ o. placed_row (Some k) o (listed (start_at (drop m ks) (drop m starts)) 0 count)) its
+      ∙ ap (λ j. placed k p (listed (start_at (drop j ks) (drop j starts)) 0 count)) up
+      ∙ placed-listed k p (start_at (drop (suc n) ks) (drop (suc n) starts)) count
+      ∙ sym (ap (λ d. listed (start_at d (drop n starts)) 0 count) from ∙ ap (λ d. listed (start_at (k ∷ drop (suc n) ks) d) 0 count) behind)
+
+  without-start : (k : Option ℕ) → slice_get ks n ≡ Some k → length starts ≤ n
+      → placed_row (slice_get ks n) (slice_get starts n) (listed (start_at (drop m ks) (drop m starts)) 0 count) ≡ listed (start_at (drop n ks) (drop n starts)) 0 count
+  without-start k is past =
+      ap (λ o. placed_row o (slice_get starts n) (listed (start_at (drop m ks) (drop m starts)) 0 count)) is
+      ∙ ap (λ o. placed_row (Some k) o (listed (start_at (drop m ks) (drop m starts)) 0 count)) (nothing-at starts n past)
+      ∙ ap (λ d. listed (start_at (drop m ks) d) 0 count) (drop_all m starts (omega (arith, past, one)))
+      ∙ listed-same (start_at (drop m ks) []) (start_at (drop n ks) []) count (λ j. no-start (drop m ks) j ∙ sym (no-start (drop n ks) j))
+      ∙ ap (λ d. listed (start_at (drop n ks) d) 0 count) (sym (drop_all n starts past))
+
+  -- one row more, from behind
+  pub placed-at : n < length ks → placed_row (slice_get ks n) (slice_get starts n) (listed (start_at (drop m ks) (drop m starts)) 0 count) ≡ listed (start_at (drop n ks) (drop n starts)) 0 count
+  placed-at l = go (found-at ks n l) (ends-or-not starts n)
+    where
+      go : (k : Option ℕ) × (slice_get ks n ≡ Some k) × (drop n ks ≡ k ∷ drop (suc n) ks) → (length starts ≤ n) ⊎ (n < length starts)
+          → placed_row (slice_get ks n) (slice_get starts n) (listed (start_at (drop m ks) (drop m starts)) 0 count) ≡ listed (start_at (drop n ks) (drop n starts)) 0 count
+      go (k, is, from) (inl past) = without-start k is past
+      go (k, is, from) (inr within) = let p = found-at starts n within in with-start k p.0 is from p.1 p.2
 
 pub placed-end : (ks : List (Option ℕ)) (starts : List ℕ) (count n : ℕ) → length ks ≤ n → listed no_places 0 count ≡ listed (start_at (drop n ks) (drop n starts)) 0 count
 placed-end ks starts count n l = sym (ap (λ d. listed (start_at d (drop n starts)) 0 count) (drop_all n ks l) ∙ listed-same (start_at [] (drop n starts)) no_places count (λ m. refl))
 
-pub ruleset placing = (placed-at, skipped-at, placed-end)
 
 -- zeros
 zero-more : (b n : ℕ) → listed no_places b n ++ 0 ∷ [] ≡ listed no_places b (suc n)

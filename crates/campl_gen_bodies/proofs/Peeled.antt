@@ -137,14 +137,18 @@ child-same w c d s is =
     ∙ ap (λ n. patched d.at (i.Peel d.channel d.side to) (built w d.body n c.held s)) is.next
     ∙ ap (patched d.at (i.Peel d.channel d.side to)) (built-same w d.body d.next c.held d.held s is.held)
 
+pub map-more : {A B : Type 0} (f : A → B) (xs : List A) (y : A) → map f (xs ++ y ∷ []) ≡ map f xs ++ f y ∷ []
+map-more f [] y = refl
+map-more f (x ∷ xs) y = ap (λ (l : List _). f x ∷ l) (map-more f xs y)
+
 -- one peel
-pub peel-so : (w : World) (links : List Link) (used used' : List Name) (l : Name) (h : Header) (body : Body) (rest : List (Header × Body)) (next next' : ℕ) (cs cs' : Channels) (s s' : Making) (old new : List Child) (c : Child)
-    → 1 ≤ length rest → l ≡ link_of (left_links used links) h (part_list rest) → used' ≡ with_name l used → next' ≡ suc next → NumbersAlike cs' (rest_held l h next cs) → s' ≡ pushed (i.Nil ∷ []) s → new ≡ old ++ c ∷ []
+pub peel-so : (w : World) (links : List Link) (used used' : List Name) (l : Name) (h : Header) (body : Body) (rest : List (Bor Part)) (next next' : ℕ) (cs cs' : Channels) (s s' : Making) (old new : List Child) (c : Child)
+    → 1 ≤ length rest → l ≡ link_of (left_links used links) h (part_list (map view_part_at rest)) → used' ≡ with_name l used → next' ≡ suc next → NumbersAlike cs' (rest_held l h next cs) → s' ≡ pushed (i.Nil ∷ []) s → new ≡ old ++ c ∷ []
     → c.at ≡ length s.emission.code → c.channel ≡ next → c.side ≡ side_in h l → c.body ≡ body → c.next ≡ suc next → NumbersAlike c.held (child_held l h next cs)
-    → children_built w new (peels_built w (left_links used' links) (part_list rest) next' cs' s') ≡ children_built w old (peels_built w (left_links used links) (part_then h body (part_list rest)) next cs s)
+    → children_built w new (peels_built w (left_links used' links) (part_list (map view_part_at rest)) next' cs' s') ≡ children_built w old (peels_built w (left_links used links) (part_then h body (part_list (map view_part_at rest))) next cs s)
 peel-so w links used used' l h body [] next next' cs cs' s s' old new c some link e1 e2 e3 e4 e5 e6 e7 e8 e9 e10 e11 = absurd (let none : ⊥ = omega (arith, some) in none)
 peel-so w links used used' l h body (q ∷ rest) next next' cs cs' s s' old new c some link e1 e2 e3 e4 e5 e6 e7 e8 e9 e10 e11 =
-    let more = part_list (q ∷ rest) in
+    let more = part_list (map view_part_at (q ∷ rest)) in
     let ls = left_links used links in
     let m = link_of ls h more in
     let p = pushed (i.Nil ∷ []) s in
@@ -198,9 +202,25 @@ peels-begin w links used children order next n cs ds s u c m same =
     ∙ ap (λ l. peels_built w (left_links l links) (part_list (map view_part_at order)) n ds s) u ∙ ap (λ l. peels_built w l (part_list (map view_part_at order)) n ds s) (none-used links)
     ∙ ap (λ k. peels_built w links (part_list (map view_part_at order)) k ds s) m ∙ peels-same w links (part_list (map view_part_at order)) next ds cs s same
 
--- the part at a place, and those behind it
-pub order-at : (order : List (Bor Part)) (n : ℕ) (p : Bor Part) → n < length order → p ≡ get_or order n p
-    → part_list (map view_part_at (drop n order)) ≡ part_then (view_part_at p).0 (view_part_at p).1 (part_list (map view_part_at (drop (n + 1) order)))
-order-at order n p l is = ap (λ d. part_list (map view_part_at d)) (drop-at order n p l is)
+take-long : {A : Type 0} (xs : List A) (n : ℕ) → length xs ≤ n → take n xs ≡ xs
+take-long [] zero l = refl
+take-long [] (suc n) l = refl
+take-long (x ∷ xs) zero l = absurd (let none : ⊥ = omega (arith, l) in none)
+take-long (x ∷ xs) (suc n) l = ap (λ ys. x ∷ ys) (take-long xs n (omega (arith, l)))
 
-pub ruleset beginning = (peels-begin)
+long-drop : {A : Type 0} (xs : List A) (n : ℕ) → length (drop n xs) ≡ length xs - n
+long-drop xs zero = omega arith
+long-drop [] (suc n) = omega arith
+long-drop (x ∷ xs) (suc n) = let h : length (drop n xs) ≡ length xs - n = long-drop xs n in omega (arith, h)
+
+-- the part at a place, and the slice of those behind it
+pub order-at : (order : List (Bor Part)) (n : ℕ) (p : Bor Part) → n < length order → p ≡ get_or order n p
+    → part_list (map view_part_at (drop n order)) ≡ part_then (view_part p.now).0 (view_part p.now).1 (part_list (map view_part_at (take (length order - (n + 1)) (drop (n + 1) order))))
+order-at order n p l is =
+    let h : length (drop (n + 1) order) ≡ length order - (n + 1) = long-drop order (n + 1) in
+    ap (λ d. part_list (map view_part_at d)) (drop-at order n p l is)
+    ∙ ap (λ d. part_then (view_part p.now).0 (view_part p.now).1 (part_list (map view_part_at d))) (sym (take-long (drop (n + 1) order) (length order - (n + 1)) (omega (arith, h))))
+
+-- only the last part is left
+pub all-peeled : (order : List (Bor Part)) (n : ℕ) → length order ≤ n + 1 → n ≤ length order - 1 → drop (length order - 1) order ≡ drop n order
+all-peeled order n l m = let same : length order - 1 ≡ n = omega (arith, l, m) in ap (λ k. drop k order) same

@@ -41,7 +41,7 @@ behind-all xs ys = let same : length (xs ++ ys) - length ys ≡ length xs = omeg
 
 -- Variables
 
-none-grown : (s t : Making) → t.emission.numbers ≡ s.emission.numbers → Grown s t
+pub none-grown : (s t : Making) → t.emission.numbers ≡ s.emission.numbers → Grown s t
 none-grown s t is = record { more = []; told = is }
 
 bound-grown : (v : Binder) (n : ℕ) (ns : Numbers) → (more : Numbers) × (binds v n ns ≡ more ++ ns)

@@ -63,6 +63,12 @@ abbrev pub placed : Option ℕ → (start : ℕ) → List ℕ → List ℕ
 placed None start places = places
 placed (Some n) start places = slice_set places n start
 
+-- that of a row, where there is one
+abbrev pub placed_row : Option (Option ℕ) → Option ℕ → List ℕ → List ℕ
+placed_row (Some k) (Some start) places = placed k start places
+placed_row (Some k) None places = places
+placed_row None start places = places
+
 abbrev pub no_places : ℕ → ℕ
 no_places n = 0
 

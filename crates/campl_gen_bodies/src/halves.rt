@@ -26,7 +26,6 @@ pub(crate) struct Halves {
 /// # Errors
 ///
 /// `AllocError` where memory wants, or where a number is 2^32 or more.
-#[tactic(auto, using(crate::proofs::Divided::halves))]
 pub(crate) fn divide(
     alloc: Global,
     held: &Channels,

@@ -18,6 +18,7 @@
 #![tactic(auto)]
 
 mod actions;
+mod emission;
 mod ends;
 mod halves;
 mod known;
@@ -25,5 +26,6 @@ mod making;
 mod offers;
 mod peels;
 
+pub use emission::emit_body;
 pub use known::Known;
 pub use making::Making;

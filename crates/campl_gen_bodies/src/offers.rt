@@ -1,14 +1,14 @@
 //! The places of `hcase`: one for each constructor, by its number.
-ghost use Rattle.std.specs.Prelude.{◌≡◌, ℕ, suc, [], IfOk, OnOk, map, max, slice_set};
+ghost use Rattle.std.specs.Prelude.{◌≡◌, ℕ, suc, [], IfOk, OnOk, map, max, slice_get};
 ghost use Rattle.campl_tree.specs.View.{view_hcase_row, view_decl};
 ghost use Rattle.campl_types.specs.Matching.{number_of};
 ghost use Rattle.campl_code.specs.Generated.{or_zero};
 ghost use Rattle.campl_code_bodies.specs.BodyCode.{listed};
-ghost use Rattle.campl_gen_bodies.specs.Commands.{row_numbers, count_numbers, offer_places, placed, no_places};
+ghost use Rattle.campl_gen_bodies.specs.Commands.{row_numbers, count_numbers, offer_places, placed, placed_row, no_places};
 
 use crate::known::Known;
 use campl_tree::HcaseRow;
-use sqlite_items::Items;
+use sqlite_items::{Items, at};
 use std::alloc::{AllocError, Global};
 
 /// The numbers of the constructors of rows, each where it is declared.
@@ -42,7 +42,6 @@ fn row_number(known: &Known<'_>, row: &HcaseRow) -> Result<Option<u32>, AllocErr
 /// # Errors
 ///
 /// `AllocError` where memory wants.
-#[tactic(auto, using(crate::proofs::Offering::placing))]
 pub(crate) fn offer_places(
     alloc: Global,
     numbers: &[Option<u32>],
@@ -54,9 +53,7 @@ pub(crate) fn offer_places(
     let mut more = numbers.len();
     'rows: while more > 0 {
         more -= 1;
-        if more < starts.len() {
-            place(&mut places, &numbers[more], starts[more]);
-        }
+        place_row(&mut places, numbers, starts, more);
     }
     Ok(places)
 }
@@ -96,6 +93,19 @@ fn zeros(alloc: Global, count: usize) -> Result<Items<u32>, AllocError>
         more += 1;
     }
     Ok(places)
+}
+
+// Writes the place of a row for its number.
+fn place_row(places: &mut Items<u32>, numbers: &[Option<u32>], starts: &[u32], row: usize)
+    ensures { places.new ≡ placed_row (slice_get numbers.now row) (slice_get starts.now row) places.old }
+{
+    match at(numbers, row) {
+        Some(number) => match at(starts, row) {
+            Some(start) => place(places, number, *start),
+            None => {}
+        },
+        None => {}
+    }
 }
 
 // Writes a place for a number, where there is one.

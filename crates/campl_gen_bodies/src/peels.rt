@@ -50,7 +50,6 @@ pub(crate) struct Peeling<'a> {
 /// # Errors
 ///
 /// `AllocError` where memory wants, or where a number is 2^32 or more: what is made is no more of use.
-#[tactic(auto, using(crate::proofs::Peeled::beginning))]
 pub(crate) fn peel_all<'a>(
     alloc: Global,
     making: &mut Making,
@@ -64,14 +63,9 @@ pub(crate) fn peel_all<'a>(
     let mut peeling = begin(alloc, held)?;
     let mut at: usize = 0;
     'parts: while at + 1 < order.len() {
-        peel(
-            alloc,
-            making,
-            &mut peeling,
-            links,
-            order[at],
-            &order[at + 1..],
-        )?;
+        let part = order[at];
+        let behind = &order[at + 1..];
+        peel(alloc, making, &mut peeling, links, part, behind)?;
         at += 1;
     }
     Ok(peeling)
@@ -115,6 +109,7 @@ fn peel<'a>(
 }
 
 // The child of a peel with a link of this name, with its share of the channels; the others stay.
+#[tactic(auto, using(crate::proofs::Peeled::dividing))]
 fn divide<'a>(
     alloc: Global,
     rest: &mut Channels,
@@ -173,7 +168,8 @@ fn link_name(
     ensures { IfOk result (λ name. name ≡ link_of (left_links used.now (map view_link links.now)) (view_part part.now).0 (part_list (map view_part_at behind.now))) }
 {
     for i in 0..links.len() {
-        let name = &links[i].name.name;
+        let link = &links[i];
+        let name = &link.name.name;
         if joins(name, used, part, behind) {
             return name.copy(alloc);
         }
