@@ -88,6 +88,13 @@ received-is (v ∷ vs) s =
     received-is vs (received v s) ∙ ap (λ k. named s (k + length vs) (parameter_numbers k vs ++ binds v f ns)) one ∙ ap (λ k. named s k (parameter_numbers (suc f) vs ++ binds v f ns)) long
     ∙ ap (λ l. named s (f + suc (length vs)) (parameter_numbers (suc f) vs ++ l)) (binds-more v f ns) ∙ ap (λ l. named s (f + suc (length vs)) l) (sym (append_assoc (parameter_numbers (suc f) vs) (binds v f []) ns))
 
+-- from its steps
+pub process-done : (w : World) (d : ProcessDecl) (s t u v : Making) (n : ℕ) (ds : Channels) → t ≡ begun s → u ≡ all_received d.row.variables t
+    → NumbersAlike ds (channel_numbers 0 d.row.inputs ++ channel_numbers (length d.row.inputs) d.row.outputs) → n ≡ length d.row.inputs + length d.row.outputs → v ≡ built w d.row.body n ds u → v ≡ process_built w d s
+process-done w d s t u v n ds begins receives same many is =
+    let next = length d.row.inputs + length d.row.outputs in
+    is ∙ ap (λ k. built w d.row.body k ds u) many ∙ built-same w d.row.body next ds (first_channels d) u same ∙ ap (built w d.row.body next (first_channels d)) (receives ∙ ap (all_received d.row.variables) begins)
+
 -- its code and its decisions
 pub process-so : (w : World) (d : ProcessDecl) (s : Making) → process_built w d s ≡ added (whole_process w d (length s.decisions)) (all_received d.row.variables (begun s))
 unfolding built
@@ -144,13 +151,8 @@ decisions-end w ds n old dec l = ap (λ x. old ++ decisions_from w (processes_of
 -- The whole
 
 made-so : (w : World) (n : ℕ) (d : ProcessDecl) (dec : ℕ) → body_size d.row.body ≤ n → process_made w n d dec ≡ whole_process w d dec
-made-so w n d dec fits = whole-so n fits
-  where
-    next : ℕ
-    next = length d.row.inputs + length d.row.outputs
-
-    whole-so : (k : ℕ) → body_size d.row.body ≤ k → process_made w k d dec ≡ whole_process w d dec
-    whole-so k f = whole-alike w k d.row.body f 0 dec (length d.row.variables) (parameter_numbers 0 d.row.variables) (length d.row.inputs + length d.row.outputs) (first_channels d) (first_channels d) (alike-itself (first_channels d))
+made-so w n d dec fits =
+    whole-alike w n d.row.body fits 0 dec (length d.row.variables) (parameter_numbers 0 d.row.variables) (length d.row.inputs + length d.row.outputs) (first_channels d) (first_channels d) (alike-itself (first_channels d))
 
 blocks-so : (w : World) (n : ℕ) (ds : List ProcessDecl) (dec : ℕ) → processes_size ds ≤ n → blocks_from w ds dec ≡ process_blocks w n ds dec
 blocks-so w n [] dec l = refl

@@ -1,5 +1,5 @@
 -- The bodies of a plug's parts, behind all peels.
-use Rattle.std.proofs.Common.{◌≡◌, ◌∙◌, refl, sym, ap, ℕ, zero, suc, ◌+◌, ◌-◌, ◌<◌, ◌≤◌, max, List, [], ◌∷◌, ◌++◌, map, length, drop, take, get_or, arith}
+use Rattle.std.proofs.Common.{◌≡◌, ◌∙◌, refl, sym, ap, ℕ, zero, suc, ◌+◌, ◌-◌, ◌<◌, ◌≤◌, max, List, [], ◌∷◌, ◌++◌, map, length, drop, take, get_or, Option, Some, None, slice_get, arith}
 use Rattle.std.specs.Borrow.{Bor}
 use Rattle.std.proofs.lemmas.List.{drop_all, drop_more}
 use Rattle.campl_tree.specs.declared.process.Part.{Part}
@@ -21,7 +21,7 @@ use Rattle.campl_gen_bodies.specs.Making.{Making, pushed, patched, built}
 use Rattle.campl_gen_bodies.specs.Commands.{first_held, second_held, fork_built}
 use Rattle.campl_gen_bodies.specs.Peels as peels
 use Rattle.campl_gen_bodies.specs.Peels.{child_built, children_built, heaviest, heaviest_child}
-use Rattle.campl_gen_bodies.specs.View.{view_child}
+use Rattle.campl_gen_bodies.specs.View.{view_child, one_part}
 use Rattle.campl_gen_bodies.proofs.Alike.{picked-fit, all-fit}
 use Rattle.campl_gen_bodies.proofs.Commands.{built-same}
 use Rattle.campl_gen_bodies.proofs.Peeled.{part-light, fit-heaviest}
@@ -40,8 +40,22 @@ plug-light links parts order slice is same =
     let f : heaviest (last_first links (part_list (map view_part parts))) ≤ k = fit-heaviest k (last_first links (part_list (map view_part parts))) (picked-fit k (part_list (map view_part parts)) _ (all-fit k (part_list (map view_part parts)) (omega arith))) in
     omega (arith, h, f)
 
-pub last-light : (order : List (Bor Part)) (n : ℕ) (p : Bor Part) → n < length order → p ≡ get_or order n p → body_size (view_part p.now).1 ≤ heaviest (part_list (map view_part_at order))
-last-light order n p l is = part-light order n p l is
+-- some of the parts are no heavier than all
+drop-light : (order : List (Bor Part)) (n : ℕ) → heaviest (part_list (map view_part_at (drop n order))) ≤ heaviest (part_list (map view_part_at order))
+drop-light order zero = omega arith
+drop-light [] (suc n) = omega arith
+drop-light (p ∷ order) (suc n) = go (heaviest (part_list (map view_part_at (drop n order)))) (body_size (view_part_at p).1) (heaviest (part_list (map view_part_at order))) (drop-light order n)
+  where
+    go : (x y z : ℕ) → x ≤ z → x ≤ max y z
+    go x y z e = grind arith
+
+pub last-light : (order : List (Bor Part)) (n : ℕ) (p : Bor Part) → part_list (map view_part_at (drop n order)) ≡ one_part (Some p) → body_size (view_part p.now).1 ≤ heaviest (part_list (map view_part_at order))
+last-light order n p is =
+    let h : heaviest (part_list (map view_part_at (drop n order))) ≡ max (body_size (view_part p.now).1) 0 = ap heaviest is in
+    go (body_size (view_part p.now).1) (heaviest (part_list (map view_part_at (drop n order)))) (heaviest (part_list (map view_part_at order))) h (drop-light order n)
+  where
+    go : (x y z : ℕ) → y ≡ max x 0 → y ≤ z → x ≤ z
+    go x y z e f = grind arith
 
 pub child-light : (children : List Child) (n : ℕ) (c : Child) → n < length children → c ≡ get_or children n c → body_size (view_child c).body ≤ heaviest_child (map view_child children)
 child-light [] n c l is = absurd (let none : ⊥ = omega (arith, l) in none)
@@ -92,3 +106,27 @@ fork-done w x left right next n1 n2 own its to at n cs c1 c2 s t u v a1 e1 a2 e2
     ∙ ap (λ k. patched (length s.emission.code) (i.Fork (number x.name cs) next k to) u) e6 ∙ ap (λ k. patched (length s.emission.code) (i.Fork (number x.name cs) next (suc next) k) u) e7
     ∙ ap (patched (length s.emission.code) (i.Fork (number x.name cs) next (suc next) (length t.emission.code))) us
     ∙ ap (λ (y : Making). patched (length s.emission.code) (i.Fork (number x.name cs) next (suc next) (length y.emission.code)) (built w r ssn (second_held x (view_branch left) (view_branch right) next cs) y)) ts
+
+-- The part that is left
+
+last-one : (order : List (Bor Part)) (n : ℕ) (p : Bor Part) → length order ≤ n + 1 → slice_get order n ≡ Some p → drop n order ≡ p ∷ []
+last-one [] n p l is = absurd (let none : ⊥ = cc in none)
+last-one (x ∷ []) zero p l is = let same : x ≡ p = cc in ap (λ y. y ∷ []) same
+last-one (x ∷ y ∷ order) zero p l is = absurd (let none : ⊥ = omega (arith, l) in none)
+last-one (x ∷ order) (suc n) p l is = last-one order n p (omega (arith, l)) is
+
+pub left-there : (order : List (Bor Part)) (p : Bor Part) → 1 ≤ length order → slice_get order (length order - 1) ≡ Some p → part_list (map view_part_at (drop (length order - 1) order)) ≡ one_part (Some p)
+left-there order p l is = ap (λ d. part_list (map view_part_at d)) (last-one order (length order - 1) p (omega (arith, l)) is)
+
+pub left-none : (order : List (Bor Part)) (n : ℕ) → length order ≡ 0 → part_list (map view_part_at (drop n order)) ≡ one_part None
+left-none order n is = ap (λ d. part_list (map view_part_at d)) (drop_all n order (omega (arith, is)))
+
+get-none : {A : Type 0} (xs : List A) (n : ℕ) → slice_get xs n ≡ None → length xs ≤ n
+get-none [] n is = omega arith
+get-none (x ∷ xs) zero is = absurd (let none : ⊥ = cc in none)
+get-none (x ∷ xs) (suc n) is = let h : length xs ≤ n = get-none xs n is in omega (arith, h)
+
+pub left-nowhere : (order : List (Bor Part)) → 1 ≤ length order → slice_get order (length order - 1) ≡ None → part_list (map view_part_at (drop (length order - 1) order)) ≡ one_part None
+left-nowhere order l is = let h : length order ≤ length order - 1 = get-none order (length order - 1) is in absurd (let none : ⊥ = omega (arith, l, h) in none)
+
+pub ruleset lefts = (left-there, left-none, left-nowhere)

@@ -9,5 +9,4 @@ pub mod Divided
 pub mod Offering
 pub mod Peeled
 pub mod Sizes
-pub mod Forgotten
 pub mod Children

@@ -221,6 +221,10 @@ order-at order n p l is =
     ap (λ d. part_list (map view_part_at d)) (drop-at order n p l is)
     ∙ ap (λ d. part_then (view_part p.now).0 (view_part p.now).1 (part_list (map view_part_at d))) (sym (take-long (drop (n + 1) order) (length order - (n + 1)) (omega (arith, h))))
 
+pub rest-slice : (order : List (Bor Part)) (n : ℕ) → drop (n + 1) order ≡ take (length order - (n + 1)) (drop (n + 1) order)
+rest-slice order n =
+    let h : length (drop (n + 1) order) ≡ length order - (n + 1) = long-drop order (n + 1) in sym (take-long (drop (n + 1) order) (length order - (n + 1)) (omega (arith, h)))
+
 -- only the last part is left
 pub all-peeled : (order : List (Bor Part)) (n : ℕ) → length order ≤ n + 1 → n ≤ length order - 1 → drop (length order - 1) order ≡ drop n order
 all-peeled order n l m = let same : length order - 1 ≡ n = omega (arith, l, m) in ap (λ k. drop k order) same

@@ -4,16 +4,18 @@ use Rattle.std.proofs.lemmas.List.{drop_all, drop_more}
 use Rattle.campl_tree.specs.declared.process.HcaseRow.{HcaseRow, out-HcaseRow}
 use Rattle.campl_tree.specs.declared.process.Branch.{Branch, out-Branch}
 use Rattle.campl_tree.specs.declared.process.CaseRow.{CaseRow, out-CaseRow}
-use Rattle.campl_tree.specs.Plain.Pattern.{Pattern}
+use Rattle.campl_tree.specs.Plain.Pattern.{Pattern, pattern_then, no_patterns}
 use Rattle.campl_tree.specs.Plain.Process.{Body}
-use Rattle.campl_tree.specs.View.{view_body, view_pattern, view_hcase_row, view_branch, view_case_row}
+use Rattle.campl_tree.specs.View.{view_body, view_pattern, view_hcase_row, view_branch, view_case_row, case_rows}
 use Rattle.campl_tree.proofs.Views.{view_hcase_row-out, view_branch-out, view_case_row-out, view_part-out}
+use Rattle.campl_types.specs.Forms.{Form, list_of, part_forms}
+use Rattle.campl_types.specs.Linear.{body_rows}
 use Rattle.campl_types.specs.World.{World}
 use Rattle.campl_types.specs.Patterns.{bound_in}
 use Rattle.campl_code.specs.Numbers.{Numbers}
 use Rattle.campl_code_bodies.specs.Bodies.{Channels}
 use Rattle.campl_gen_exprs.specs.Emission.{binding}
-use Rattle.campl_gen_bodies.proofs.Forgotten.{forgotten}
+use Rattle.campl_gen_exprs.proofs.Bindings.{forgotten}
 use Rattle.campl_gen_bodies.specs.Making.{Making, entered, kept, left_at, built}
 use Rattle.campl_gen_bodies.specs.Commands.{rows_built, row_starts, case_row_built, cases_built, case_starts}
 
@@ -71,3 +73,10 @@ case-row-left w r next cs s =
     ∙ ap (λ (q : Pattern × Body). case_row_built w q next cs s) (sym (view_case_row-out r))
 
 pub ruleset cases = (case-row-left)
+
+-- the patterns of rows as matching sees them
+pub forms-are : (rows : List CaseRow) → map (λ (r : CaseRow). list_of (part_forms (pattern_then (view_case_row r).0 no_patterns))) rows ≡ body_rows (case_rows (map view_case_row rows))
+forms-are [] = refl
+forms-are (r ∷ rows) = ap (λ (l : List (List Form)). list_of (part_forms (pattern_then (view_case_row r).0 no_patterns)) ∷ l) (forms-are rows)
+
+pub ruleset forms = (forms-are)

@@ -12,7 +12,7 @@ ghost use Rattle.campl_gen_bodies.specs.View.{view_making};
 
 use crate::actions::act_all;
 use crate::ends::{call, halt, identity};
-use crate::halves::{divide, two_numbers};
+use crate::halves::{divide, second_number};
 use crate::known::Known;
 use crate::making::Making;
 use campl_gen_channels::Channels;
@@ -104,12 +104,12 @@ fn emit_fork(
 {
     let at = making.len();
     let n = held.number(&x.name);
-    let (own, its) = two_numbers(held)?;
+    let its = second_number(held)?;
     let halves = divide(alloc, held, x, left, right)?;
     making.push(Instr::Nil)?;
     emit_body(alloc, known, making, &halves.first, &left.body)?;
     let to = making.here()?;
     emit_body(alloc, known, making, &halves.second, &right.body)?;
-    making.set(at, Instr::Fork(n, own, its, to));
+    making.set(at, Instr::Fork(n, held.next, its, to));
     Ok(())
 }

@@ -44,16 +44,16 @@ pub(crate) fn divide(
     Ok(Halves { first, second })
 }
 
-/// The numbers of the two new channels.
+/// The number behind the next one, which the child's channel has.
 ///
 /// # Errors
 ///
-/// `AllocError` where the second would be 2^32.
-pub(crate) fn two_numbers(held: &Channels) -> Result<(u32, u32), AllocError>
-    ensures { IfOk result (λ n. n ≡ (held.now.next, suc held.now.next)) }
+/// `AllocError` where it would be 2^32.
+pub(crate) fn second_number(held: &Channels) -> Result<u32, AllocError>
+    ensures { IfOk result (λ n. n ≡ suc held.now.next) }
 {
     match held.next.checked_add(1) {
-        Some(second) => Ok((held.next, second)),
+        Some(second) => Ok(second),
         None => Err(AllocError),
     }
 }

@@ -11,7 +11,7 @@ ghost use Rattle.campl_gen_bodies.specs.View.{view_making};
 
 use crate::known::Known;
 use campl_gen_exprs::{Emitter, bind_pattern, emit, emit_all};
-use campl_gen_functions::{decide, decide_all};
+use campl_gen_functions::{decide, decide_all, put_match};
 use campl_instructions::{Decision, Instr};
 use campl_tree::{Binder, CaseRow, Expr, Pattern};
 use sqlite_items::Items;
@@ -25,6 +25,25 @@ pub struct Making {
 }
 
 impl Making {
+    /// No code, behind these decisions.
+    pub fn new(alloc: Global, decisions: Items<Decision>) -> Making
+        ensures { result.decisions ≡ decisions }
+    {
+        Making {
+            code: Emitter::new(alloc, 0),
+            decisions,
+        }
+    }
+
+    /// The decisions alone.
+    pub fn into_decisions(self) -> Items<Decision>
+        ensures { result ≡ self.decisions }
+    {
+        let Making { code, decisions } = self;
+        drop(code);
+        decisions
+    }
+
     /// The place of the next instruction.
     #[tactic(auto, using(crate::proofs::Lists::lengths))]
     pub(crate) fn len(&self) -> usize
@@ -142,6 +161,7 @@ impl Making {
 }
 
 // Puts the decision of rows behind the others.
+#[tactic(auto, using(crate::proofs::RowTurns::forms))]
 fn put_rows(
     alloc: Global,
     known: &Known<'_>,
@@ -150,9 +170,5 @@ fn put_rows(
 ) -> Result<(), AllocError>
     ensures { OnOk result (map view_decision out.new ≡ map view_decision out.old ++ decision_for (map view_decl known.now) 1 (body_rows (case_rows (map view_case_row rows.now))) ∷ []) }
 {
-    let _ = alloc;
-    let _ = known;
-    let _ = rows;
-    let _ = out;
-    Err(AllocError)
+    put_match(alloc, known.world(), out, 1, rows)
 }

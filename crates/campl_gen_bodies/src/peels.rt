@@ -10,14 +10,14 @@ ghost use Rattle.campl_gen_channels.specs.Numbers.{NumbersAlike};
 ghost use Rattle.campl_gen_channels.specs.Orders.{view_part_at};
 ghost use Rattle.campl_gen_channels.specs.View.{view_channels, is_kept};
 ghost use Rattle.campl_gen_bodies.specs.Peels.{left_links, link_of, child_held, rest_held, children_built, peels_built, heaviest, heaviest_child, heaviest_with};
-ghost use Rattle.campl_gen_bodies.specs.View.{view_making, view_child};
+ghost use Rattle.campl_gen_bodies.specs.View.{view_making, view_child, one_part};
 
 use crate::making::Making;
 use campl_gen_channels::{Channels, header_names, side_in, stands_among, stands_in};
 use campl_instructions::Instr;
 use campl_names::NameSet;
 use campl_tree::{Link, Name, Part, Side};
-use sqlite_items::Items;
+use sqlite_items::{Items, at};
 use std::alloc::{AllocError, Global};
 
 /// The part that a peel bears.
@@ -69,6 +69,21 @@ pub(crate) fn peel_all<'a>(
         at += 1;
     }
     Ok(peeling)
+}
+
+/// The part that is left behind all peels, the last of the order.
+#[tactic(auto, using(crate::proofs::Children::lefts))]
+pub(crate) fn left_of<'a>(order: &[&'a Part]) -> Option<&'a Part>
+    ensures { part_list (map view_part_at (drop (length order.now - 1) order.now)) ≡ one_part result }
+{
+    let count = order.len();
+    if count == 0 {
+        return None;
+    }
+    match at(order, count - 1) {
+        Some(part) => Some(*part),
+        None => None,
+    }
 }
 
 // Nothing is peeled.

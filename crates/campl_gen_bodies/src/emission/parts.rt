@@ -12,7 +12,7 @@ ghost use Rattle.campl_gen_bodies.specs.View.{view_making, view_child};
 use crate::emission::emit_body;
 use crate::known::Known;
 use crate::making::Making;
-use crate::peels::{Child, peel_all};
+use crate::peels::{Child, left_of, peel_all};
 use campl_gen_channels::{Channels, last_first};
 use campl_instructions::Instr;
 use campl_tree::{Link, Part};
@@ -63,12 +63,13 @@ fn emit_left(
 ) -> Result<(), AllocError>
     ensures { OnOk result ((links : List PlainLink) → view_making making.new ≡ peels_built (map view_decl known.now) links (part_list (map view_part_at (drop (length order.now - 1) order.now))) held.now.next (view_channels held.now) (view_making making.old)) }
 {
-    if order.is_empty() {
-        return Ok(());
+    match left_of(order) {
+        Some(part) => {
+            emit_body(alloc, known, making, held, &part.body)?;
+            Ok(())
+        }
+        None => Ok(()),
     }
-    let part = order[order.len() - 1];
-    emit_body(alloc, known, making, held, &part.body)?;
-    Ok(())
 }
 
 // The bodies of children, the last first.

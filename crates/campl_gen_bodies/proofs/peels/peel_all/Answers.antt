@@ -4,7 +4,7 @@ use Rattle.campl_gen_channels.specs.Orders.{view_part_at}
 use Rattle.campl_gen_channels.specs.View.{view_channels}
 use Rattle.campl_gen_bodies.specs.Peels.{children_built, peels_built, left_links, heaviest, heaviest_child}
 use Rattle.campl_gen_bodies.specs.View.{view_making, view_child}
-use Rattle.campl_gen_bodies.proofs.Peeled.{peels-begin, order-at, part-light, still-light, all-peeled}
+use Rattle.campl_gen_bodies.proofs.Peeled.{peels-begin, order-at, part-light, still-light, all-peeled, rest-slice}
 use Rattle.campl_gen_bodies.proofs.peels.peel_all.Goals as goal
 
 pub parts-init : goal.parts-init
@@ -19,7 +19,10 @@ parts-init c =
 pub parts-preserved : goal.parts-preserved
 parts-preserved c =
     record {
-      built = λ w. c.in_ok-peel.ensures.built w
+      built = λ w.
+          ap (λ d. children_built w (map view_child c.peel.new.peeling.children) (peels_built w (left_links c.peel.new.peeling.used (map view_link c.args.links.now)) (parts (map view_part_at d)) c.peel.new.peeling.rest.next (view_channels c.peel.new.peeling.rest) (view_making c.peel.new.making)))
+          (rest-slice c.args.order.now c.parts.at)
+          ∙ c.in_ok-peel.ensures.built w
           ∙ ap (λ p. children_built w (map view_child c.parts.peeling.children) (peels_built w (left_links c.parts.peeling.used (map view_link c.args.links.now)) p c.parts.peeling.rest.next (view_channels c.parts.peeling.rest) (view_making c.parts.making)))
           (sym (order-at c.args.order.now c.parts.at c.index-order-at.result (omega (arith, c.parts-test.true)) c.index-order-at.is))
           ∙ c.parts.invariant.built w;
