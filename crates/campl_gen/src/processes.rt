@@ -124,11 +124,7 @@ fn small(n: usize) -> Result<u32, AllocError>
 }
 
 // Gives the parameters the first numbers.
-fn receive_all(
-    alloc: Global,
-    making: &mut Making,
-    variables: &[Binder],
-) -> Result<(), AllocError>
+fn receive_all(alloc: Global, making: &mut Making, variables: &[Binder]) -> Result<(), AllocError>
     ensures { OnOk result (view_making making.new ≡ all_received variables.now (view_making making.old)) }
 {
     for i in 0..variables.len() {

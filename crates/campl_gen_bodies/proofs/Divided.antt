@@ -17,13 +17,15 @@ use Rattle.campl_gen_bodies.specs.Commands.{first_held, second_held}
 pub half-held : (keep : Name → Bool) (x y : Name) (n m : ℕ) (cs c0 c1 c2 c3 : Channels) → NumbersAlike c0 (those keep cs) → NumbersAlike c1 (without x c0) → NumbersAlike c2 ((y, n) ∷ c1) → n ≡ m → c3 ≡ c2
     → NumbersAlike c3 ((y, m) ∷ those keep (without x cs))
 half-held keep x y n m cs c0 c1 c2 c3 kept gone came one same =
-    record { told = λ v.
-        ap (found v) same
-        ∙ (alike-on c2 ((y, n) ∷ c1) ((y, m) ∷ those keep (without x cs)) came
-        (alike-on ((y, n) ∷ c1) ((y, m) ∷ c1) ((y, m) ∷ those keep (without x cs)) (record { told = λ u. ap (λ k. found u ((y, k) ∷ c1)) one })
-        (alike-more y m c1 (those keep (without x cs))
-        (alike-on c1 (without x c0) (those keep (without x cs)) gone
-        (alike-on (without x c0) (without x (those keep cs)) (those keep (without x cs)) (alike-without x c0 (those keep cs) kept) (those-without keep x cs)))))).told v }
+    record {
+      told = λ v.
+          ap (found v) same
+          ∙ (alike-on c2 ((y, n) ∷ c1) ((y, m) ∷ those keep (without x cs)) came
+          (alike-on ((y, n) ∷ c1) ((y, m) ∷ c1) ((y, m) ∷ those keep (without x cs)) (record { told = λ u. ap (λ k. found u ((y, k) ∷ c1)) one })
+          (alike-more y m c1 (those keep (without x cs))
+          (alike-on c1 (without x c0) (those keep (without x cs)) gone
+          (alike-on (without x c0) (without x (those keep cs)) (those keep (without x cs)) (alike-without x c0 (those keep cs) kept) (those-without keep x cs)))))).told v;
+    }
 
 pub half-held-now : (keep : Name → Bool) (x y : Name) (n m : ℕ) (cs c0 c1 c2 : Channels) → NumbersAlike c0 (those keep cs) → NumbersAlike c1 (without x c0) → NumbersAlike c2 ((y, n) ∷ c1) → n ≡ m
     → NumbersAlike c2 ((y, m) ∷ those keep (without x cs))

@@ -113,7 +113,6 @@ module _ (ks : List (Option ℕ)) (starts : List ℕ) (count n m : ℕ) (one : m
 pub placed-end : (ks : List (Option ℕ)) (starts : List ℕ) (count n : ℕ) → length ks ≤ n → listed no_places 0 count ≡ listed (start_at (drop n ks) (drop n starts)) 0 count
 placed-end ks starts count n l = sym (ap (λ d. listed (start_at d (drop n starts)) 0 count) (drop_all n ks l) ∙ listed-same (start_at [] (drop n starts)) no_places count (λ m. refl))
 
-
 -- zeros
 zero-more : (b n : ℕ) → listed no_places b n ++ 0 ∷ [] ≡ listed no_places b (suc n)
 zero-more b zero = refl

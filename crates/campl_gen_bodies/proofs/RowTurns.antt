@@ -78,5 +78,3 @@ pub ruleset cases = (case-row-left)
 pub forms-are : (rows : List CaseRow) → map (λ (r : CaseRow). list_of (part_forms (pattern_then (view_case_row r).0 no_patterns))) rows ≡ body_rows (case_rows (map view_case_row rows))
 forms-are [] = refl
 forms-are (r ∷ rows) = ap (λ (l : List (List Form)). list_of (part_forms (pattern_then (view_case_row r).0 no_patterns)) ∷ l) (forms-are rows)
-
-pub ruleset forms = (forms-are)

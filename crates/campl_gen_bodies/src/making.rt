@@ -161,7 +161,6 @@ impl Making {
 }
 
 // Puts the decision of rows behind the others.
-#[tactic(auto, using(crate::proofs::RowTurns::forms))]
 fn put_rows(
     alloc: Global,
     known: &Known<'_>,

@@ -72,12 +72,11 @@ pub same-numbers : (xs : List Ident) (cs ds : Channels) → NumbersAlike cs ds �
 same-numbers [] cs ds same = refl
 same-numbers (x ∷ xs) cs ds same = ap (λ n. n ∷ all_numbers xs cs) (same-number x.name cs ds same) ∙ ap (λ l. number x.name ds ∷ l) (same-numbers xs cs ds same)
 
-
 -- it doesn't matter which of both comes first
 pub those-without : (keep : Name → Bool) (y : Name) (cs : Channels) → NumbersAlike (without y (those keep cs)) (those keep (without y cs))
 those-without keep y cs = record {
   told = λ x.
-      found-without y (those keep cs) x ∙ ap (λ o. if same_name y x then None else o) (found-those keep cs x) ∙ turn (same_name y x) (keep x)  (found x cs)
+      found-without y (those keep cs) x ∙ ap (λ o. if same_name y x then None else o) (found-those keep cs x) ∙ turn (same_name y x) (keep x) (found x cs)
       ∙ ap (λ o. if keep x then o else None) (sym (found-without y cs x)) ∙ sym (found-those keep (without y cs) x);
 }
   where

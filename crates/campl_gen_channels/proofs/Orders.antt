@@ -87,14 +87,14 @@ searched-on k i links order p l is =
     let up : k - i ≡ suc (k - (i + 1)) = omega (arith, l) in
     let one : suc i ≡ i + 1 = omega arith in
     ap (λ n. searched n k links order i) up
-    ∙ ap (λ o. elim o [ | None ↦ order | Some q ↦ searched (k - (i + 1)) k links (order ++ new_neighbours k links order q) (suc i) ]) is
+    ∙ ap (λ o. elim o [ None ↦ order | Some q ↦ searched (k - (i + 1)) k links (order ++ new_neighbours k links order q) (suc i) ]) is
     ∙ ap (λ j. searched (k - (i + 1)) k links (order ++ new_neighbours k links order p) j) one
 
 pub searched-out : (k i : ℕ) (links : List Join) (order : List ℕ) → i < k → slice_get order i ≡ None → searched (k - i) k links order i ≡ order
 searched-out k i links order l is =
     let up : k - i ≡ suc (k - (i + 1)) = omega (arith, l) in
     ap (λ n. searched n k links order i) up
-    ∙ ap (λ o. elim o [ | None ↦ order | Some q ↦ searched (k - (i + 1)) k links (order ++ new_neighbours k links order q) (suc i) ]) is
+    ∙ ap (λ o. elim o [ None ↦ order | Some q ↦ searched (k - (i + 1)) k links (order ++ new_neighbours k links order q) (suc i) ]) is
 
 pub searched-end : (k i : ℕ) (links : List Join) (order : List ℕ) → k ≤ i → searched (k - i) k links order i ≡ order
 searched-end k i links order l = let none : k - i ≡ 0 = omega (arith, l) in ap (λ n. searched n k links order i) none

@@ -116,9 +116,9 @@ emit_fork-returns t c =
 pub parts::emit_left-returns-in_ok-emit_body-in-Some : goal.parts::emit_left-returns-in_ok-emit_body-in-Some
 parts::emit_left-returns-in_ok-emit_body-in-Some t c =
     λ links.
-        let w = map view_decl c.args.known.now in
-        c.in_ok-emit_body-in-Some.ensures ∙ ap (λ p. built w p.1 c.args.held.now.next (view_channels c.args.held.now) (view_making c.args.making.now)) (sym (view_part-out c.in-Some.part.now))
-        ∙ sym (ap (λ p. peels_built w links p c.args.held.now.next (view_channels c.args.held.now) (view_making c.args.making.now)) c.in-Some.ensures)
+    let w = map view_decl c.args.known.now in
+    c.in_ok-emit_body-in-Some.ensures ∙ ap (λ p. built w p.1 c.args.held.now.next (view_channels c.args.held.now) (view_making c.args.making.now)) (sym (view_part-out c.in-Some.part.now))
+    ∙ sym (ap (λ p. peels_built w links p c.args.held.now.next (view_channels c.args.held.now) (view_making c.args.making.now)) c.in-Some.ensures)
 
 pub parts::emit_child-emit_body-requires : goal.parts::emit_child-emit_body-requires
 parts::emit_child-emit_body-requires t c = (let k = ap (λ p. body_size p.1) (view_part-out c.args.child.now.part.now) in omega (arith, k, c.decreases), tt)

@@ -34,6 +34,6 @@ parts-preserved c =
 pub returns-clause-built : goal.returns-clause-built
 returns-clause-built c =
     λ w.
-        ap (λ d. children_built w (map view_child c.parts.peeling.children) (peels_built w (left_links c.parts.peeling.used (map view_link c.args.links.now)) (parts (map view_part_at d)) c.parts.peeling.rest.next (view_channels c.parts.peeling.rest) (view_making c.parts.making)))
-        (all-peeled c.args.order.now c.parts.at (omega (arith, c.parts-test.false)) c.parts.invariant.within)
-        ∙ c.parts.invariant.built w
+    ap (λ d. children_built w (map view_child c.parts.peeling.children) (peels_built w (left_links c.parts.peeling.used (map view_link c.args.links.now)) (parts (map view_part_at d)) c.parts.peeling.rest.next (view_channels c.parts.peeling.rest) (view_making c.parts.making)))
+    (all-peeled c.args.order.now c.parts.at (omega (arith, c.parts-test.false)) c.parts.invariant.within)
+    ∙ c.parts.invariant.built w
