@@ -58,15 +58,16 @@ received-at vs n v s l is = ap (λ d. all_received d s) (drop-at vs n v l is)
 pub received-end : (vs : List Binder) (n : ℕ) (s : Making) → length vs ≤ n → all_received (drop n vs) s ≡ s
 received-end vs n s l = ap (λ d. all_received d s) (drop_all n vs l)
 
-pub heading-held : (ins outs : List Ident) (c0 c1 c2 : Channels) (n : ℕ) → NumbersAlike c1 (c0 ++ channel_numbers 0 ins) → c0 ≡ [] → n ≡ length ins → NumbersAlike c2 (c1 ++ channel_numbers n outs)
-    → NumbersAlike c2 (channel_numbers 0 ins ++ channel_numbers (length ins) outs)
-heading-held ins outs c0 c1 c2 n first none one second =
-    alike-on c2 (c1 ++ channel_numbers n outs) (channel_numbers 0 ins ++ channel_numbers (length ins) outs) second
-    (alike-on (c1 ++ channel_numbers n outs) (channel_numbers 0 ins ++ channel_numbers n outs) (channel_numbers 0 ins ++ channel_numbers (length ins) outs)
-    (alike-append c1 (channel_numbers 0 ins) (channel_numbers n outs) (alike-on c1 (c0 ++ channel_numbers 0 ins) (channel_numbers 0 ins) first (alike-so (c0 ++ channel_numbers 0 ins) (channel_numbers 0 ins) (ap (λ l. l ++ channel_numbers 0 ins) none))))
-    (alike-so (channel_numbers 0 ins ++ channel_numbers n outs) (channel_numbers 0 ins ++ channel_numbers (length ins) outs) (ap (λ k. channel_numbers 0 ins ++ channel_numbers k outs) one)))
-
-pub ruleset headings = (heading-held)
+pub heading-held : (ins outs first second : List Ident) (c0 c1 c2 : Channels) (n m : ℕ) → NumbersAlike c1 (c0 ++ channel_numbers n first) → c0 ≡ [] → n ≡ 0 → first ≡ ins → m ≡ n + length first
+    → NumbersAlike c2 (c1 ++ channel_numbers m second) → second ≡ outs → NumbersAlike c2 (channel_numbers 0 ins ++ channel_numbers (length ins) outs)
+heading-held ins outs first second c0 c1 c2 n m came none zeroth inputs many later outputs =
+    let start : c0 ++ channel_numbers n first ≡ channel_numbers 0 ins = ap (λ l. l ++ channel_numbers n first) none ∙ ap (λ k. channel_numbers k first) zeroth ∙ ap (channel_numbers 0) inputs in
+    let long : n + length first ≡ length ins = let h : length first ≡ length ins = ap length inputs in omega (arith, h, zeroth) in
+    let rest : channel_numbers m second ≡ channel_numbers (length ins) outs = ap (λ k. channel_numbers k second) (many ∙ long) ∙ ap (channel_numbers (length ins)) outputs in
+    alike-on c2 (c1 ++ channel_numbers m second) (channel_numbers 0 ins ++ channel_numbers (length ins) outs) later
+    (alike-on (c1 ++ channel_numbers m second) (channel_numbers 0 ins ++ channel_numbers m second) (channel_numbers 0 ins ++ channel_numbers (length ins) outs)
+    (alike-append c1 (channel_numbers 0 ins) (channel_numbers m second) (alike-on c1 (c0 ++ channel_numbers n first) (channel_numbers 0 ins) came (alike-so (c0 ++ channel_numbers n first) (channel_numbers 0 ins) start)))
+    (alike-so (channel_numbers 0 ins ++ channel_numbers m second) (channel_numbers 0 ins ++ channel_numbers (length ins) outs) (ap (λ l. channel_numbers 0 ins ++ l) rest)))
 
 -- A process
 

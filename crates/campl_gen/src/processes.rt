@@ -134,7 +134,6 @@ fn receive_all(alloc: Global, making: &mut Making, variables: &[Binder]) -> Resu
 }
 
 // The channels of a process's heading: the inputs, and then the outputs.
-#[tactic(auto, using(crate::proofs::Blocks::headings))]
 fn heading(alloc: Global, row: &ProcessRow) -> Result<Channels, AllocError>
     ensures held { IfOk result (λ held. NumbersAlike (view_channels held) (channel_numbers 0 row.now.inputs ++ channel_numbers (length row.now.inputs) row.now.outputs)) }
     ensures next { IfOk result (λ held. held.next ≡ length row.now.inputs + length row.now.outputs) }
