@@ -144,7 +144,7 @@ def mutant_cases():
     chance = Random(1051)
     for told, text in GOOD.items():
         yield from mutants(told, text, 24, chance)
-    for told, text in whole_sources("data"):
+    for told, text in whole_sources("crates/typed_sources/data"):
         if len(text) < 900:
             yield from mutants(told, text, 8, chance)
 
@@ -153,7 +153,7 @@ def mutant_cases():
 
 
 def whole_sources(folder):
-    for path in sorted(glob.glob(os.path.join(HERE, "../crates/typed_sources", folder, "*.campl"))):
+    for path in sorted(glob.glob(os.path.join(HERE, "..", folder, "*.campl"))):
         yield os.path.splitext(os.path.basename(path))[0].replace("_", " "), text_of(path)
 
 
@@ -163,7 +163,8 @@ def groups():
     yield from branch_groups()
     yield from plug_groups()
     for folder in ("data", "data/no_tree", "data/refused"):
-        yield "worked", [one for one in whole_sources(folder) if answer_of_functions(one[1]) == "typed"]
+        yield "worked", [one for one in whole_sources("crates/typed_sources/" + folder) if answer_of_functions(one[1]) == "typed"]
+    yield "example", whole_sources("examples")
     yield "mutant", mutant_cases()
 
 

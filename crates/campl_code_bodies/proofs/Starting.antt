@@ -1,6 +1,7 @@
 -- The start of the code stands for the start of the source.
 use Rattle.std.proofs.Common.{◌≡◌, ◌∙◌, refl, sym, ap, subst, arith, ℕ, suc, ◌+◌, ◌<◌, ◌≤◌, true, List, [], ◌∷◌, ◌++◌, Some, None, if◌then◌else◌, length, length-append, map, slice_get}
 use Rattle.std.specs.Prelude.{nat_lt, codes}
+use Rattle.std.proofs.lemmas.List.{length-map}
 use Rattle.campl_tree.specs.declared.place.Ident.{Ident}
 use Rattle.campl_tree.specs.declared.service.Side.{Side}
 use Rattle.campl_tree.specs.declared.service.Side.TheVariants.{Input, Output}
@@ -39,10 +40,6 @@ holding-append (x ∷ xs) ys n =
     let up : suc n + length xs ≡ n + suc (length xs) = omega arith in
     (λ i. (x.name, near n) ∷ e i) ∙ ap (λ (k : ℕ). (x.name, near n) ∷ (holding (suc n) xs ++ holding k ys)) up
 
-map-long : {A B : Type 0} (f : A → B) (xs : List A) → length (map f xs) ≡ length xs
-map-long f [] = refl
-map-long f (x ∷ xs) = ap suc (map-long f xs)
-
 attending-alike : (w : World) (code : Code) (n : ℕ) (xs : List ServiceName) (scripts : List Lines) → NodesAlike w code (beside_nodes (attending n xs scripts)) (attending n xs scripts)
 attending-alike w code n [] scripts = tt
 attending-alike w code n (x ∷ xs) scripts = (refl, refl, attending-alike w code (suc n) xs _)
@@ -68,11 +65,11 @@ starts-alike w code d g b scripts named plain at s = record {
     listed = rw named refl
 
     many : length (services_of w) ≡ length d.row.inputs + length d.row.outputs
-    many = ap length listed ∙ length-append (map (service Input) d.row.inputs) (map (service Output) d.row.outputs) ∙ ap (λ (n : ℕ). n + length (map (service Output) d.row.outputs)) (map-long (service Input) d.row.inputs) ∙ ap (λ (n : ℕ). length d.row.inputs + n) (map-long (service Output) d.row.outputs)
+    many = ap length listed ∙ length-append (map (service Input) d.row.inputs) (map (service Output) d.row.outputs) ∙ ap (λ (n : ℕ). n + length (map (service Output) d.row.outputs)) (length-map d.row.inputs (service Input)) ∙ ap (λ (n : ℕ). length d.row.inputs + n) (length-map d.row.outputs (service Output))
 
     held : holding 0 (services_of w) ≡ holding 0 (map (service Input) d.row.inputs) ++ holding (length d.row.inputs) (map (service Output) d.row.outputs)
     held =
-        let up : 0 + length (map (service Input) d.row.inputs) ≡ length d.row.inputs = omega (arith, map-long (service Input) d.row.inputs) in
+        let up : 0 + length (map (service Input) d.row.inputs) ≡ length d.row.inputs = omega (arith, length-map d.row.inputs (service Input)) in
         ap (holding 0) listed ∙ holding-append (map (service Input) d.row.inputs) (map (service Output) d.row.outputs) 0 ∙ ap (λ (n : ℕ). holding 0 (map (service Input) d.row.inputs) ++ holding n (map (service Output) d.row.outputs)) up
 
     cell : CellStands w code (first_cell w code g b) (record { term = Doing d.row.body; variables = []; ends = holding 0 (services_of w); steps = 0; spent = 0 })

@@ -1,5 +1,5 @@
 -- The rows of a typed `hcase` have the numbers of the constructors.
-use Rattle.std.proofs.Common.{◌≡◌, ◌∙◌, ◌≤◌, ◌&&◌, ◌||◌, refl, sym, ap, subst, arith, ℕ, zero, suc, max, Bool, true, false, not, List, [], ◌∷◌, Option, Some, None, if◌then◌else◌, length, slice_get, eqb-true, true≢false}
+use Rattle.std.proofs.Common.{◌≡◌, ◌∙◌, ◌≤◌, ◌&&◌, ◌||◌, refl, sym, ap, subst, arith, ℕ, zero, suc, max, Bool, true, false, not, [], ◌∷◌, Option, Some, None, if◌then◌else◌, length, slice_get, eqb-true, true≢false}
 use Rattle.std.specs.Prelude.{IsTrue}
 use Rattle.std.proofs.lemmas.Option.{slice_get_within}
 use Rattle.campl_tree.specs.declared.place.Ident.{Ident}
@@ -16,7 +16,7 @@ use Rattle.campl_types.specs.World.{World, world_of}
 use Rattle.campl_types.specs.Polarity.{Choices}
 use Rattle.campl_types.specs.Fits.{Vars}
 use Rattle.campl_types.specs.Held.{Held}
-use Rattle.campl_types.specs.Linear.{HasEachOnce, RowsAreWellFormed}
+use Rattle.campl_types.specs.Linear.{HasEachOnce, RowsAreWellFormed, row_names}
 use Rattle.campl_types.specs.Matching.{row_picked}
 use Rattle.campl_code.specs.Generated.{or_zero}
 use Rattle.campl_code_bodies.specs.BodyCode.{count_hcase}
@@ -32,11 +32,6 @@ found-at (c ∷ cs) k y i = go (same_name k c.0) refl i (found-at cs k y)
     go : (t : Bool) → same_name k c.0 ≡ t → (if t then Some c.1 else found k cs) ≡ Some y → (found k cs ≡ Some y → (n : ℕ) × (slice_get cs n ≡ Some (k, y))) → (n : ℕ) × (slice_get (c ∷ cs) n ≡ Some (k, y))
     go true e j later = let q : c.1 ≡ y = cc j in let x : c.0 ≡ k = sym (same-is k c.0 e) in (0, (λ t. Some (x t, q t)))
     go false e j later = let (n, at) = later j in (suc n, at)
-
--- the names of the rows' constructors
-abbrev own_names : HcaseRows → List Name
-own_names b.no_hcase_rows = []
-own_names (b.hcase_row_then k body rows) = k.name ∷ own_names rows
 
 drop-second : (a c d g : Bool) → IsTrue (not (a || c) && (not d && g)) → (a ≡ false) × IsTrue (not c && g)
 drop-second true c d g h = absurd (true≢false (sym h))
@@ -68,7 +63,7 @@ module _ (source : Program) (good : IsWellDeclared source) (cs : Choices) (are :
   -- no later row has the number of this one
   pub later-none : (vs : Vars) (held : Held) (x : Name) (s : Side) (k : Ident) (first : Body) (y : ChanType) (m : ℕ) (rows : HcaseRows) → found k.name cs ≡ Some y → number_of w k.name ≡ Some m → HasEachOnce (b.hcase_row_then k first rows) [] → RowsAreWellFormed w vs held x s cs rows → row_picked w m rows ≡ None
   later-none vs held x s k first y m b.no_hcase_rows f is once well = refl
-  later-none vs held x s k first y m (b.hcase_row_then k2 body rows) f is once well = go (drop-second (same_name k.name k2.name) (is_among k.name (own_names rows)) (is_among k2.name (own_names rows)) (are_distinct (own_names rows)) once.0).0 (is_number (number_of w k2.name) m) refl (later-none vs held x s k first y m rows f is ((drop-second (same_name k.name k2.name) (is_among k.name (own_names rows)) (is_among k2.name (own_names rows)) (are_distinct (own_names rows)) once.0).1, refl) well.3)
+  later-none vs held x s k first y m (b.hcase_row_then k2 body rows) f is once well = go (drop-second (same_name k.name k2.name) (is_among k.name (row_names rows)) (is_among k2.name (row_names rows)) (are_distinct (row_names rows)) once.0).0 (is_number (number_of w k2.name) m) refl (later-none vs held x s k first y m rows f is ((drop-second (same_name k.name k2.name) (is_among k.name (row_names rows)) (is_among k2.name (row_names rows)) (are_distinct (row_names rows)) once.0).1, refl) well.3)
     where
       go : same_name k.name k2.name ≡ false → (t : Bool) → is_number (number_of w k2.name) m ≡ t → row_picked w m rows ≡ None → (if t then Some body else row_picked w m rows) ≡ None
       go apart false h later = later

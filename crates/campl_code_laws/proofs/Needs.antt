@@ -40,6 +40,7 @@ use Rattle.campl_types.specs.Matching.{number_of}
 use Rattle.campl_code.proofs.Frames.{max-left, max-right}
 use Rattle.campl_code.proofs.Standing.{names-numbered}
 use Rattle.campl_code.proofs.Known.{var_names, names-append, fit-binds, typed-known, parts-known}
+use Rattle.campl_code.proofs.Bound.{some-same}
 use Rattle.campl_code_bodies.specs.Bodies.{Channels, without, binds, has_two}
 use Rattle.campl_code_bodies.specs.BodyNeeds.{IsHeld, HcaseNeeds, RaceNeeds, CaseNeeds, PeelsNeed, BodyNeeds}
 use Rattle.campl_code_bodies.specs.BodyCode.{count_hcase}
@@ -52,9 +53,6 @@ use Rattle.campl_types.proofs.Lowers.{process-typed}
 and-later : (p q : Bool) → IsTrue (p && q) → IsTrue q
 and-later true q h = h
 and-later false q h = absurd (true≢false (sym h))
-
-some-same : {A : Type 0} {x y : A} → Some x ≡ Some y → x ≡ y
-some-same e = cc e
 
 -- Sizes and trees of the parts that are picked
 

@@ -10,10 +10,8 @@ use Rattle.campl_code.specs.Results.{Faulty}
 use Rattle.campl_code.specs.Machine.{Goes, Enters, Breaks, popped, is_empty, enters, enters_with, below, matches, decides, to_row, goes_to}
 use Rattle.campl_eval.specs.Turn.{is_entry}
 use Rattle.campl_operands.proofs.Tops.{popped-is, popped-short, take-all}
-
-and-false : (b : Bool) → (b && false) ≡ false
-and-false true = refl
-and-false false = refl
+use mathlib.Core.Bool.{and-false}
+use Rattle.campl_types.proofs.Truth.{and-second}
 
 left : (n : ℕ) (st : List Tree) → n ≤ length st → (length st ≡ n → ⊥) → is_empty (drop n st) ≡ false
 left zero [] h d = absurd (d refl)
@@ -23,10 +21,6 @@ left (suc n) (v ∷ st) h d = let k : n ≤ length st = omega (arith, h) in left
 
 pub not-last : (b : Bool) (n : ℕ) (st : List Tree) → n ≤ length st → (length st ≡ n → ⊥) → false ≡ (b && is_empty (drop n st))
 not-last b n st h d = sym (ap (λ x. b && x) (left n st h d) ∙ and-false b)
-
-second : (a b : Bool) → (a && b) ≡ true → b ≡ true
-second true b e = e
-second false b e = absurd cc
 
 all : (n : ℕ) (st : List Tree) → n ≤ length st → is_empty (drop n st) ≡ true → length st ≡ n
 all zero [] h e = refl
@@ -40,7 +34,7 @@ frame-of g vs = record { block = g; at = 0; vars = vs; stack = [] }
 pub last-frame : (b : Bool) (g n size : ℕ) (st : List Tree) → n ≤ length st → (b && is_empty (drop n st)) ≡ true
     → ◌≡◌ {A = Frame} (record { block = g; at = 0; vars = reverse st ++ replicate (size - length st) Nil; stack = [] }) (record { block = g; at = 0; vars = reverse (take n st) ++ replicate (size - n) Nil; stack = [] })
 last-frame b g n size st h e =
-    let len = all n st h (second b _ e) in
+    let len = all n st h (and-second b _ e) in
     let same : take n st ≡ st = ap (λ (k : ℕ). take k st) (sym len) ∙ take-all st in
     ap (λ (k : ℕ). frame-of g (reverse st ++ replicate (size - k) Nil)) len ∙ ap (λ s. frame-of g (reverse s ++ replicate (size - n) Nil)) (sym same)
 

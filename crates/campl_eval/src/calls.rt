@@ -7,7 +7,6 @@ ghost use Rattle.campl_eval.specs.View.{code_of, seen, seens};
 
 use crate::{Flow, Frame, Machine};
 use campl_instructions::Instr;
-use campl_operands::{Operands, Variables};
 use campl_program::Program;
 use std::alloc::{AllocError, Global};
 use std::mem;
@@ -81,35 +80,13 @@ impl Machine {
         ensures frame { OnOk result (seen self.new.frame ≡ record { block = g; at = 0; vars = reverse (take n self.old.frame.operands) ++ replicate (size - n) NilTree; stack = [] }) }
         ensures callers { OnOk result (seens self.new.callers ≡ record { block = self.old.frame.block; at = self.old.frame.at; vars = self.old.frame.variables; stack = drop n self.old.frame.operands } ∷ seens self.old.callers) }
     {
-        let mut frame = self.unused(alloc);
+        let mut frame = self.spare.take(alloc);
         frame.block = g as usize;
         frame.at = 0;
         self.frame.operands.move_top(n, &mut frame.variables)?;
         frame.variables.pad(size)?;
         let caller = mem::replace(&mut self.frame, frame);
         self.callers.push(caller)
-    }
-
-    // A frame without variables and operands.
-    fn unused(&mut self, alloc: Global) -> Frame
-        ensures variables { result.variables ≡ [] }
-        ensures operands { result.operands ≡ [] }
-        ensures frame { self.new.frame ≡ self.old.frame }
-        ensures callers { self.new.callers ≡ self.old.callers }
-    {
-        match self.spare.pop() {
-            Some(mut frame) => {
-                frame.variables.clear();
-                frame.operands.clear();
-                frame
-            }
-            None => Frame {
-                block: 0,
-                at: 0,
-                variables: Variables::new(alloc),
-                operands: Operands::new(alloc),
-            },
-        }
     }
 
     // Gives the top to the caller.
@@ -122,10 +99,8 @@ impl Machine {
         let Some(caller) = self.callers.pop() else {
             return Flow::Faulty;
         };
-        let mut gone = mem::replace(&mut self.frame, caller);
-        gone.variables.clear();
-        gone.operands.clear();
-        if self.spare.push(gone).is_err() {
+        let gone = mem::replace(&mut self.frame, caller);
+        if self.spare.keep(gone).is_err() {
             return Flow::OutOfMemory;
         }
         match self.frame.operands.push(value) {

@@ -5,7 +5,7 @@ ghost use Rattle.campl_code.specs.Machine.{step, enters};
 ghost use Rattle.campl_eval.specs.Turn.{Answers, GivesAll, is_entry};
 ghost use Rattle.campl_eval.specs.View.{code_of, seen, seens};
 
-use crate::{Flow, Frame, Machine, Stack};
+use crate::{Flow, Frame, Machine, Spare, Stack};
 use campl_instructions::Instr;
 use campl_operands::{Operands, Variables};
 use campl_program::Program;
@@ -54,10 +54,24 @@ impl Eval {
                     operands: Operands::new(alloc),
                 },
                 callers: Stack::new(alloc),
-                spare: Stack::new(alloc),
+                spare: Spare::new(alloc),
             },
             spent: 0,
             is_out: false,
+        }
+    }
+
+    /// The same evaluation, which shares the parts of its values with this one. An error means that memory is out.
+    pub fn copy(&self, alloc: Global) -> Result<Eval, AllocError>
+        ensures { IfOk result (λ copy. copy ≡ self.now) }
+    {
+        match self.machine.copy(alloc) {
+            Err(error) => Err(error),
+            Ok(machine) => Ok(Eval {
+                machine,
+                spent: self.spent,
+                is_out: self.is_out,
+            }),
         }
     }
 

@@ -3,7 +3,8 @@
 //! - A [`Frame`] has a place in a block, variables and operands. [`Machine::step`] does the next instruction of the frame in hand:
 //!   a call puts a frame on it, or takes its place where it would only return.
 //! - An [`Eval`] starts at a place of a block. [`Eval::run`] goes on until a process's instruction comes, something breaks, or
-//!   before a call when all calls that it was given are spent; then it goes on with those that it is given next.
+//!   before a call when all calls that it was given are spent; then it goes on with those that it is given next. A copy goes on
+//!   as the original does.
 //!
 //! ```text
 //! let mut eval = Eval::start(alloc, block, place, variables);
@@ -17,9 +18,11 @@ mod eval;
 mod laws;
 mod machine;
 mod matching;
+mod spare;
 mod stack;
 
 pub use eval::{Eval, Turn};
 pub use laws::law_turn;
 pub use machine::{Flow, Frame, Machine};
+pub use spare::Spare;
 pub use stack::Stack;

@@ -1,5 +1,5 @@
 //! The machine, an instruction at a time.
-ghost use Rattle.std.specs.Prelude.{◌≡◌, ◌+◌, ◌<◌, ◌^◌, option_map, IfSome};
+ghost use Rattle.std.specs.Prelude.{◌≡◌, ◌+◌, ◌<◌, ◌^◌, option_map, IfOk, IfSome};
 ghost use Rattle.std.specs.Option.{option_copied};
 ghost use Rattle.campl_code.specs.Machine as m;
 ghost use Rattle.campl_instructions.specs.View.{view_instr};
@@ -7,12 +7,12 @@ ghost use Rattle.campl_operands.specs.Effects.{made};
 ghost use Rattle.campl_eval.specs.Flow.{Leads, goes};
 ghost use Rattle.campl_eval.specs.View.{code_of, seen, seens};
 
-use crate::Stack;
+use crate::{Spare, Stack};
 use campl_instructions::Instr;
 use campl_operands::{Effect, Operands, Variables};
 use campl_program::Program;
 use campl_value::Look;
-use std::alloc::Global;
+use std::alloc::{AllocError, Global};
 
 /// A block's number, the place in it, its variables and operands. Functions are numbered first, then processes.
 #[derive(Drop)]
@@ -28,8 +28,7 @@ pub struct Frame {
 pub struct Machine {
     pub frame: Frame,
     pub callers: Stack<Frame>,
-    /// Frames that aren't used, with their room.
-    pub spare: Stack<Frame>,
+    pub spare: Spare,
 }
 
 /// Where an instruction led.
@@ -57,9 +56,44 @@ impl Frame {
     {
         program.instr(self.block, self.at)
     }
+
+    /// The same frame, which shares the parts of its values with this one. An error means that memory is out.
+    pub fn copy(&self, alloc: Global) -> Result<Frame, AllocError>
+        ensures { IfOk result (λ copy. copy ≡ self.now) }
+    {
+        let Ok(variables) = self.variables.copy(alloc) else {
+            return Err(AllocError);
+        };
+        let Ok(operands) = self.operands.copy(alloc) else {
+            return Err(AllocError);
+        };
+        Ok(Frame {
+            block: self.block,
+            at: self.at,
+            variables,
+            operands,
+        })
+    }
 }
 
 impl Machine {
+    /// The same machine, which shares the parts of its values with this one. An error means that memory is out.
+    pub fn copy(&self, alloc: Global) -> Result<Machine, AllocError>
+        ensures { IfOk result (λ copy. copy ≡ self.now) }
+    {
+        let Ok(frame) = self.frame.copy(alloc) else {
+            return Err(AllocError);
+        };
+        let Ok(callers) = self.callers.copy(alloc) else {
+            return Err(AllocError);
+        };
+        Ok(Machine {
+            frame,
+            callers,
+            spare: Spare::new(alloc),
+        })
+    }
+
     /// Does the next instruction. What a break or want of memory leaves isn't said.
     #[inline]
     pub fn step(&mut self, alloc: Global, program: &Program) -> Flow

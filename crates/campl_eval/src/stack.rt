@@ -1,7 +1,8 @@
 //! Things on one another.
-ghost use Rattle.std.specs.Prelude.{◌≡◌, [], ◌∷◌, OnOk, MatchOption};
+ghost use Rattle.std.specs.Prelude.{◌≡◌, [], ◌∷◌, IfOk, OnOk, MatchOption};
 ghost use Rattle.campl_eval.specs.View.{has_none};
 
+use crate::Frame;
 use std::alloc::{AllocError, Global};
 use std::marker::Model;
 
@@ -45,6 +46,31 @@ impl<T> Stack<T> {
     {
         self.items.pop()
     }
+}
+
+impl Stack<Frame> {
+    /// The same frames. An error means that memory is out.
+    pub fn copy(&self, alloc: Global) -> Result<Stack<Frame>, AllocError>
+        ensures { IfOk result (λ copy. copy ≡ self.now) }
+    {
+        match copies(alloc, self.items.as_slice()) {
+            Err(error) => Err(error),
+            Ok(items) => Ok(Stack { items }),
+        }
+    }
+}
+
+fn copies(alloc: Global, frames: &[Frame]) -> Result<Vec<Frame>, AllocError>
+    ensures { IfOk result (λ copies. copies.items ≡ frames.now) }
+{
+    let mut copies = Vec::new(alloc);
+    for frame in frames {
+        match frame.copy(alloc) {
+            Err(error) => return Err(error),
+            Ok(copy) => copies.push(copy)?,
+        }
+    }
+    Ok(copies)
 }
 
 impl<T: Drop> Stack<T> {

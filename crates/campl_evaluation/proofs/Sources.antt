@@ -1,8 +1,8 @@
 -- Sound evaluation in typed sources, and what processes take from it.
-use Rattle.std.proofs.Common.{◌≡◌, ◌∙◌, refl, sym, ap, subst, ℕ, zero, suc, List, [], ◌∷◌, ◌++◌, Option, Some, None, map, slice_get}
+use Rattle.std.proofs.Common.{◌≡◌, ◌∙◌, refl, sym, subst, ℕ, zero, suc, List, [], ◌∷◌, ◌++◌, Option, Some, None, map, slice_get}
 use Rattle.campl_tree.specs.Plain.Decl.{Program}
 use Rattle.campl_tree.specs.Plain.Expr.{Expr, Exprs}
-use Rattle.campl_tree.specs.Plain.SeqType.{SeqType, SeqTypes, no_types, type_then, Variable}
+use Rattle.campl_tree.specs.Plain.SeqType.{SeqType}
 use Rattle.campl_tree.specs.Plain.SeqType as s
 use Rattle.campl_tree.specs.Plain.Pattern.{Pattern}
 use Rattle.campl_tree.specs.Plain.Process as b
@@ -16,7 +16,7 @@ use Rattle.campl_types.specs.Missing.{Row}
 use Rattle.campl_types.proofs.TypedRows.{body-case-chooses}
 use Rattle.campl_types.specs.Matching.{Bindings, SomeRowMatches, first_match, row_matched}
 use Rattle.campl_types.specs.Sequential.{Way, HasType, PartsHaveTypes, AreExhaustive}
-use Rattle.campl_types.specs.Substitution.{Filling, filled, all_filled}
+use Rattle.campl_types.specs.Substitution.{Filling, filled}
 use Rattle.campl_types.specs.Typed.{IsTyped}
 use Rattle.campl_types.specs.World.{World, world_of}
 use Rattle.campl_evaluation.specs.Evaluation.{calls, value_of, values_of}
@@ -27,6 +27,7 @@ use Rattle.campl_types.proofs.Instances.{value-of-instance}
 use Rattle.campl_evaluation.proofs.Declared.{typed-world}
 use Rattle.campl_evaluation.proofs.Sound.{sound-parts, calls-fine, value-is-fine}
 use Rattle.campl_types.specs.Values.{IsValue, AllAreValues}
+use Rattle.campl_types.proofs.Compose.{filled-nothing}
 
 pub source-is-sound : (source : Program) → IsTyped source → (way : Way) (f : Filling) (vs : Vars) (a : Expr) (t : SeqType) (variables : Bindings) (n : ℕ)
     → AreBound (world_of source) f variables vs → HasType way (world_of source) vs a t
@@ -34,20 +35,6 @@ pub source-is-sound : (source : Program) → IsTyped source → (way : Way) (f :
 source-is-sound source i = value-is-fine (world_of source) (typed-world source i)
 
 -- with nothing filled
-mutual
-  pub filled-nothing : (t : SeqType) → filled [] t ≡ t
-  filled-nothing s.Int = refl
-  filled-nothing s.Char = refl
-  filled-nothing s.Bool = refl
-  filled-nothing (s.List t) = ap s.List (filled-nothing t)
-  filled-nothing (s.Pair t u) = let p = filled-nothing t in let q = filled-nothing u in λ k. s.Pair (p k) (q k)
-  filled-nothing (s.Named at x ts) = ap (s.Named at x) (all-filled-nothing ts)
-  filled-nothing (Variable at x) = refl
-
-  all-filled-nothing : (ts : SeqTypes) → all_filled [] ts ≡ ts
-  all-filled-nothing no_types = refl
-  all-filled-nothing (type_then t ts) = let p = filled-nothing t in let q = all-filled-nothing ts in λ k. type_then (p k) (q k)
-
 list-filled-nothing : (ts : List SeqType) → map (filled []) ts ≡ ts
 list-filled-nothing [] = refl
 list-filled-nothing (t ∷ ts) = let p = filled-nothing t in let q = list-filled-nothing ts in λ k. p k ∷ q k

@@ -13,14 +13,9 @@ use Rattle.campl_names.specs.NameSet.{with_name}
 use Rattle.campl_names.specs.Scope.{with_names}
 use Rattle.campl_names.proofs.Declared.{among-behind}
 use Rattle.campl_free.specs.Gathers.{Test, Gathers, nothing, is_name, is_one_of, either_of, under, free_in, inside, behind}
+use mathlib.Core.Bool.{or_assoc, or_comm}
 
 -- Sets
-
-or-turn : (a b c : Bool) → (a || (b || c)) ≡ (b || (a || c))
-or-turn true true c = refl
-or-turn true false c = refl
-or-turn false true c = refl
-or-turn false false c = refl
 
 pub among-with : (x y : Name) (vs : List Name) → is_among x (with_name y vs) ≡ (same_name x y || is_among x vs)
 among-with x y vs = go (is_among y vs) refl
@@ -36,12 +31,8 @@ among-with x y vs = go (is_among y vs) refl
 among-names : (x : Name) (vs us : List Name) → is_among x (with_names vs us) ≡ (is_among x us || is_among x vs)
 among-names x vs [] = refl
 among-names x vs (y ∷ us) =
-    among-names x (with_name y vs) us ∙ ap (λ b. is_among x us || b) (among-with x y vs) ∙ or-turn (is_among x us) (same_name x y) (is_among x vs)
-    ∙ or-left (same_name x y) (is_among x us) (is_among x vs)
-  where
-    or-left : (a b c : Bool) → (a || (b || c)) ≡ ((a || b) || c)
-    or-left true b c = refl
-    or-left false b c = refl
+    among-names x (with_name y vs) us ∙ ap (λ b. is_among x us || b) (among-with x y vs) ∙ sym (or_assoc (is_among x us) (same_name x y) (is_among x vs))
+    ∙ ap (λ z. z || is_among x vs) (or_comm (is_among x us) (same_name x y))
 
 extended : (vs us : List Name) → (more : List Name) × (with_names vs us ≡ vs ++ more)
 extended vs [] = ([], sym (append-nil vs))

@@ -22,10 +22,11 @@ use Rattle.campl_types.specs.Names.{Name, same_name, is_among}
 use Rattle.campl_types.specs.World.{names_of}
 use Rattle.campl_types.specs.Headers.{link_names}
 use Rattle.campl_types.specs.Free.{channel_of, channels_bound, is_free, is_free_in_rows, is_free_in_branches, is_free_in_cases, is_free_in_parts}
+use Rattle.campl_types.proofs.Names.{or-assoc}
 use Rattle.campl_names.specs.Scope.{with_names}
 use Rattle.campl_names.proofs.Scopes.{kept-under}
 use Rattle.campl_free.specs.Gathers.{Test, Gathers, GathersBehind, nothing, is_name, is_one_of, either_of, under, named_by, free_in, free_in_rows, free_in_branches, free_in_cases, free_in_parts, behind, inside}
-use Rattle.campl_free.proofs.Gathered.{kept-inside, gathers-nothing, gathers-none, gathers-both, gathers-under, drop-at}
+use Rattle.campl_free.proofs.Gathered.{kept-inside, gathers-nothing, gathers-both, gathers-under, drop-at}
 
 -- Last commands
 
@@ -112,10 +113,6 @@ ok-then (Ok x) p f = f p
 ok-then (Err e) p f = p
 
 -- Rows
-
-or-assoc : (a c d : Bool) → (a || (c || d)) ≡ ((a || c) || d)
-or-assoc true c d = refl
-or-assoc false c d = refl
 
 pub row-at : (rows : List HcaseRow) (i : ℕ) (r : HcaseRow) → i < length rows → r ≡ get_or rows i r
     → free_in_rows (hcase_rows (map view_hcase_row (drop i rows))) ≡ either_of (free_in (view_hcase_row r).1) (free_in_rows (hcase_rows (map view_hcase_row (drop (i + 1) rows))))

@@ -1,6 +1,7 @@
 -- What is emitted for a function is its code.
-use Rattle.std.proofs.Common.{◌≡◌, ◌∙◌, refl, sym, ap, ℕ, zero, suc, ◌+◌, ◌-◌, ◌<◌, ◌≤◌, true, List, [], ◌∷◌, ◌++◌, length, length-append, append_assoc, arith}
+use Rattle.std.proofs.Common.{◌≡◌, ◌∙◌, refl, sym, ap, ℕ, suc, ◌+◌, ◌-◌, ◌<◌, ◌≤◌, true, List, [], ◌∷◌, ◌++◌, length, length-append, append_assoc, arith}
 use Rattle.std.specs.Prelude.{slice_set}
+use Rattle.std.proofs.lemmas.List.{append-nil}
 use Rattle.campl_tree.specs.declared.decl.FunctionRow.{FunctionRow as Row}
 use Rattle.campl_tree.specs.Plain.Decl.{FunctionDecl, FunctionRow}
 use Rattle.campl_tree.specs.View.{view_function_row}
@@ -11,15 +12,11 @@ use Rattle.campl_code.specs.Generated.{loads_code, code_of, function_code, funct
 use Rattle.campl_code.specs.Instructions as i
 use Rattle.campl_code.specs.Instructions.{Instr}
 use Rattle.campl_code.specs.Numbers.{numbered}
+use Rattle.campl_code.proofs.Standing.{loads_length}
 use Rattle.campl_gen_exprs.specs.Emission.{Emission, appended, replaced, binding_all, emitted, shortened}
 use Rattle.campl_gen_exprs.specs.Functions.{fresh, function_row_emitted, function_rows_emitted, function_row_places, function_emitted}
-use Rattle.campl_gen_exprs.proofs.Emitting.{append-nothing}
 use Rattle.campl_gen_exprs.proofs.Places.{set-at}
 use Rattle.campl_gen_exprs.proofs.Bindings.{forgotten}
-
-loads-length : (k n : ℕ) → length (loads_code k n) ≡ n
-loads-length k zero = refl
-loads-length k (suc n) = ap suc (loads-length (suc k) n)
 
 -- one load more
 pub loads-at : (s : Emission) (n count : ℕ) → n < count → appended (loads_code n (count - n)) s ≡ appended (loads_code (n + 1) (count - (n + 1))) (appended (i.Load n ∷ []) s)
@@ -32,7 +29,7 @@ loads-at s n count less =
 pub loads-end : (s : Emission) (n count : ℕ) → count ≤ n → appended (loads_code n (count - n)) s ≡ s
 loads-end s n count more =
     let z : count - n ≡ 0 = omega (arith, more) in
-    ap (λ k. appended (loads_code n k) s) z ∙ ap (λ l. record s { code = l }) (append-nothing s.code)
+    ap (λ k. appended (loads_code n k) s) z ∙ ap (λ l. record s { code = l }) (append-nil s.code)
 
 pub loads-start : (s : Emission) (count : ℕ) → appended (loads_code 0 (count - 0)) s ≡ appended (loads_code 0 count) s
 loads-start s count = let z : count - 0 ≡ count = omega arith in ap (λ k. appended (loads_code 0 k) s) z
@@ -66,7 +63,7 @@ row-is w r c d =
     ap (λ k. bare (c ++ code_of w true r.value (length c) d k (numbered 0 xs [])) (d + cases_in r.value)) z
 
 rows-are : (w : World) (rows : List FunctionRow) (c : List Instr) (d : ℕ) → function_rows_emitted w rows (bare c d) ≡ bare (c ++ function_rows_code w rows (length c) d) (d + cases_in_function_rows rows)
-rows-are w [] c d = let z : d ≡ d + 0 = omega arith in same-bare c (c ++ []) d (d + 0) (sym (append-nothing c)) z
+rows-are w [] c d = let z : d ≡ d + 0 = omega arith in same-bare c (c ++ []) d (d + 0) (sym (append-nil c)) z
 rows-are w (r ∷ rows) c d =
     let xs = bound_in_all r.patterns in
     let x = code_of w true r.value (length c) d (length xs) (numbered 0 xs []) in
@@ -91,7 +88,7 @@ function-is w f dec =
     let c = loads ++ i.Nil ∷ [] in
     let behind : ℕ → List Instr = λ k. function_rows_code w f.rows k (dec + 1) in
     let m = i.Match dec 0 (function_row_places w f.rows (bare c (dec + 1))) in
-    let long : length c ≡ n + 1 = length-append loads (i.Nil ∷ []) ∙ ap (λ k. k + 1) (loads-length 0 n) in
+    let long : length c ≡ n + 1 = length-append loads (i.Nil ∷ []) ∙ ap (λ k. k + 1) (loads_length 0 n) in
     ap (λ u. replaced (length loads) m u) (rows-are w f.rows c (dec + 1))
     ∙ same-bare (slice_set (c ++ behind (length c)) (length loads) m) (function_code w f dec) (dec + 1 + cases_in_function_rows f.rows) (dec + (1 + cases_in_function_rows f.rows))
     (ap (λ l. slice_set l (length loads) m) (append_assoc loads (i.Nil ∷ []) (behind (length c)))

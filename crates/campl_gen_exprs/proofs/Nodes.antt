@@ -1,7 +1,7 @@
 -- What is emitted for each node of an expression.
 use Rattle.std.proofs.Common.{◌≡◌, ◌∙◌, refl, sym, ap, ℕ, ℤ, suc, ◌+◌, ◌<◌, ◌≤◌, Bool, true, false, List, [], ◌∷◌, ◌++◌, map, drop, get_or, length, length-append, append_assoc, arith}
 use Rattle.std.specs.Prelude.{slice_set}
-use Rattle.std.proofs.lemmas.List.{drop_all}
+use Rattle.std.proofs.lemmas.List.{drop_all, append-nil}
 use Rattle.campl_tree.specs.declared.place.Place.{Place}
 use Rattle.campl_tree.specs.declared.expr.Comparison.{Comparison}
 use Rattle.campl_tree.specs.declared.expr.Arithmetic.{Arithmetic}
@@ -24,7 +24,6 @@ use Rattle.campl_code.specs.Instructions.{Instr}
 use Rattle.campl_code.specs.Numbers.{Numbers, numbered}
 use Rattle.campl_code.specs.Stands.{count}
 use Rattle.campl_gen_exprs.specs.Emission.{Emission, appended, replaced, written, all_set, ends_set, binding, shortened, emitted, emitted_all, emitted_two, emitted_one, emitted_list, emitted_over, emitted_if, emitted_and, emitted_or, row_emitted, rows_emitted, row_places, row_ends, emitted_case}
-use Rattle.campl_gen_exprs.proofs.Emitting.{append-nothing}
 use Rattle.campl_gen_exprs.proofs.Bindings.{forgotten}
 use Rattle.campl_gen_exprs.proofs.Places.{set-at, two-code, if-code, and-code, or-code}
 use Rattle.campl_seqcheck.proofs.Answered.{drop-at}
@@ -149,7 +148,7 @@ row-ends-at w tail p a s = refl
 
 rows-is : (w : World) (tail : Bool) (rows : ExprRows) (s : Emission) → rows_emitted w tail rows s
     ≡ record s { code = s.code ++ code_of_rows w tail rows (length s.code) s.decisions s.free s.numbers 0; decisions = s.decisions + cases_in_rows rows }
-rows-is w tail e.no_expr_rows s = same s s.code (s.code ++ []) s.decisions (s.decisions + 0) (sym (append-nothing s.code)) (none-more s.decisions)
+rows-is w tail e.no_expr_rows s = same s s.code (s.code ++ []) s.decisions (s.decisions + 0) (sym (append-nil s.code)) (none-more s.decisions)
 rows-is w tail (e.expr_row_then p a rows) s =
     let x = value-code w tail p a s in
     let v = behind-row w tail p a s in
@@ -356,7 +355,7 @@ all-at w s xs i x l is = ap (λ ys. emitted_all w (exprs (map view_expr ys)) s) 
 
 pub all-end : (w : World) (s : Emission) (xs : List Expr) (i : ℕ) → length xs ≤ i → emitted_all w (exprs (map view_expr (drop i xs))) s ≡ s
 unfolding emitted_all
-all-end w s xs i l = ap (λ ys. emitted_all w (exprs (map view_expr ys)) s) (drop_all i xs l) ∙ same s (s.code ++ []) s.code (s.decisions + 0) s.decisions (append-nothing s.code) (sym (none-more s.decisions))
+all-end w s xs i l = ap (λ ys. emitted_all w (exprs (map view_expr ys)) s) (drop_all i xs l) ∙ same s (s.code ++ []) s.code (s.decisions + 0) s.decisions (append-nil s.code) (sym (none-more s.decisions))
 
 -- Rows
 

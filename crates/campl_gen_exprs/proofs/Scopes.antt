@@ -16,12 +16,6 @@ before-end [] y n i = absurd (let none : ⊥ = omega arith in none)
 before-end (x ∷ xs) y zero i = refl
 before-end (x ∷ xs) y (suc n) i = before-end xs y n (omega arith)
 
-last-first : {A : Type 0} → (xs : List A) (y : A) → reverse (xs ++ y ∷ []) ≡ y ∷ reverse xs
-last-first xs y = reverse-append xs (y ∷ [])
-
-first-last : {A : Type 0} → (y : A) (xs : List A) → reverse (y ∷ xs) ≡ reverse xs ++ y ∷ []
-first-last y xs = reverse-append (y ∷ []) xs
-
 newest-within : (x : Name) (bs : List Binding) (n : ℕ) → newest x bs ≡ Some n → n < length bs
 newest-within x [] n i = absurd (let none : ⊥ = cc in none)
 newest-within x (b ∷ bs) n i = go (same_name b.name x) i (λ j. newest-within x bs n j)
@@ -34,7 +28,7 @@ newest-within x (b ∷ bs) n i = go (same_name b.name x) i (λ j. newest-within 
 
 found-newest : (x : Name) (bs : List Binding) → found x (bound bs) ≡ seen_at (reverse bs) (newest x bs)
 found-newest x [] = refl
-found-newest x (b ∷ bs) = rw (same-turned x b.name, first-last b bs) (go (same_name b.name x) (found-newest x bs))
+found-newest x (b ∷ bs) = rw (same-turned x b.name, reverse-append (b ∷ []) bs) (go (same_name b.name x) (found-newest x bs))
   where
     kept : (o : Option ℕ) → newest x bs ≡ o → seen_at (reverse bs) o ≡ seen_at (reverse bs ++ b ∷ []) o
     kept None i = refl
@@ -72,7 +66,7 @@ fewer (x ∷ xs) i = omega arith
 -- The newest goes
 
 popped-first : (bs rest : List Binding) (b : Binding) → bs ≡ rest ++ b ∷ [] → reverse bs ≡ b ∷ reverse rest
-popped-first bs rest b i = ap reverse i ∙ last-first rest b
+popped-first bs rest b i = ap reverse i ∙ reverse-append rest (b ∷ [])
 
 -- its name is there
 pub popped-known : (es : List (Name × ℕ)) (bs rest : List Binding) (b : Binding) → bs ≡ rest ++ b ∷ [] → lookup (same_name b.name) es ≡ newest b.name (reverse bs) → IsSome (lookup (same_name b.name) es)

@@ -1,6 +1,6 @@
 -- The decisions of each node of an expression.
-use Rattle.std.proofs.Common.{◌≡◌, ◌∙◌, refl, sym, ap, ℕ, suc, ℤ, ◌+◌, ◌<◌, ◌≤◌, List, [], ◌∷◌, ◌++◌, map, drop, get_or, length, append_assoc}
-use Rattle.std.proofs.lemmas.List.{drop_all}
+use Rattle.std.proofs.Common.{◌≡◌, ◌∙◌, refl, sym, ap, ℕ, ℤ, ◌+◌, ◌<◌, ◌≤◌, List, [], ◌∷◌, ◌++◌, map, drop, get_or, length, append_assoc}
+use Rattle.std.proofs.lemmas.List.{drop_all, append-nil, map_push, length-map}
 use Rattle.campl_tree.specs.declared.place.Place.{Place}
 use Rattle.campl_tree.specs.declared.expr.Comparison.{Comparison}
 use Rattle.campl_tree.specs.declared.expr.Arithmetic.{Arithmetic}
@@ -19,18 +19,9 @@ use Rattle.campl_types.specs.World.{World}
 use Rattle.campl_code.specs.CaseDecisions.{decisions_of, decisions_of_all, decisions_of_rows, decisions_of_function_rows}
 use Rattle.campl_code.specs.Decisions.{Decision}
 use Rattle.campl_seqcheck.proofs.Answered.{drop-at}
-use Rattle.campl_seqcheck.specs.Steps.{weight}
 use Rattle.campl_gen_functions.specs.Deciding.{decided, decided_all, decided_rows, decided_two, decided_three, decided_case}
 
-pub append-nothing : {A : Type 0} (xs : List A) → xs ++ [] ≡ xs
-append-nothing [] = refl
-append-nothing (x ∷ xs) = ap (λ (l : List _). x ∷ l) (append-nothing xs)
-
-pub map-more : {A B : Type 0} (f : A → B) (xs : List A) (y : A) → map f (xs ++ y ∷ []) ≡ map f xs ++ f y ∷ []
-map-more f [] y = refl
-map-more f (x ∷ xs) y = ap (λ (l : List _). f x ∷ l) (map-more f xs y)
-
-pub ruleset appends = (append_assoc, append-nothing, map-more)
+pub ruleset appends = (append_assoc, append-nil, map_push)
 
 module _ (w : World) (at : Place) where
   pub decided-If : (a b c : Expr) → decided w (view_expr (expr.If at a b c)) ≡ decided_three w (view_expr a) (view_expr b) (view_expr c)
@@ -117,7 +108,7 @@ module _ (w : World) (at : Place) where
   unfolding decided decided_all decided_rows
   decided-List args = ap (decisions_of w) (view_expr-List at args)
 
-pub ruleset nodes = (decided-If, decided-Case, decided-Or, decided-And, decided-Compare, decided-Cons, decided-Append, decided-Calculate, decided-Negate, decided-Number, decided-Character, decided-Text, decided-True, decided-False, decided-Variable, decided-Call, decided-CodeOf, decided-CharOf, decided-Constructor, decided-List, decided-Pair, append-nothing)
+pub ruleset nodes = (decided-If, decided-Case, decided-Or, decided-And, decided-Compare, decided-Cons, decided-Append, decided-Calculate, decided-Negate, decided-Number, decided-Character, decided-Text, decided-True, decided-False, decided-Variable, decided-Call, decided-CodeOf, decided-CharOf, decided-Constructor, decided-List, decided-Pair, append-nil)
 
 -- Lists and rows
 
@@ -148,15 +139,12 @@ row-value w r = ap (λ (q : Pattern × e.Expr). decided w q.1) (sym (view_expr_r
 
 pub ruleset rows = (row-value)
 
-pub row-weight : (r : ExprRow) → weight (view_expr r.value) ≡ weight (view_expr_row r).1
-row-weight r = ap (λ (q : Pattern × e.Expr). weight q.1) (sym (view_expr_row-out r))
-
 -- the patterns of rows as matching sees them
 pub forms-are : (rows : List ExprRow) → map (λ (r : ExprRow). list_of (part_forms (pattern_then (view_expr_row r).0 no_patterns))) rows ≡ forms_of_rows (expr_rows (map view_expr_row rows))
 forms-are [] = refl
 forms-are (r ∷ rows) = ap (λ (l : List (List Form)). list_of (part_forms (pattern_then (view_expr_row r).0 no_patterns)) ∷ l) (forms-are rows)
 
-pub ruleset forms = (forms-are, map-more)
+pub ruleset forms = (forms-are, map_push)
 
 -- Functions
 
@@ -177,8 +165,4 @@ pub function-forms-are : (rows : List FunctionRow) → map (λ (r : FunctionRow)
 function-forms-are [] = refl
 function-forms-are (r ∷ rows) = ap (λ (l : List (List Form)). list_of (part_forms (patterns (map view_pattern r.patterns))) ∷ l) (function-forms-are rows)
 
-pub map-length : {A B : Type 0} (f : A → B) (xs : List A) → length (map f xs) ≡ length xs
-map-length f [] = refl
-map-length f (x ∷ xs) = ap suc (map-length f xs)
-
-pub ruleset function_forms = (function-forms-are, map-length)
+pub ruleset function_forms = (function-forms-are, length-map)

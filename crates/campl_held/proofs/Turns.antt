@@ -1,12 +1,13 @@
 -- Commands judged in order, from where a loop stands, and variables that come.
 use Rattle.std.proofs.Common.{◌≡◌, ◌∙◌, sym, ap, subst, ℕ, ◌+◌, ◌-◌, ◌<◌, ◌≤◌, Result, Ok, Err, OnOk, List, [], ◌∷◌, ◌++◌, append_assoc, map, drop, length, get_or, refl}
-use Rattle.std.proofs.lemmas.List.{drop_more, drop_all}
+use Rattle.std.proofs.lemmas.List.{drop_all}
 use Rattle.campl_tree.specs.declared.process.Action as code
 use Rattle.campl_tree.specs.View.{view_action}
 use Rattle.campl_types.specs.Fits.{Vars}
 use Rattle.campl_types.specs.World.{World}
 use Rattle.campl_vars.proofs.Variables.{below}
 use Rattle.campl_seqcheck.specs.Judged.{Judged, Is, and_then}
+use Rattle.campl_seqcheck.proofs.Answered.{drop-at}
 use Rattle.campl_linear.specs.Faults as plain
 use Rattle.campl_linear.specs.Holding.{Holding}
 use Rattle.campl_held.specs.declared.fault.LinFault.{LinFault}
@@ -37,9 +38,6 @@ loop-went here whole first next y i step inv = sym (ap (λ h. and_then h next) i
 pub loop-stopped : {B C : Type 0} (here whole : Judged plain.LinFault B) (first : Judged plain.LinFault C) (next : C → Judged plain.LinFault B) (fault : LinFault)
     → Refused first fault → here ≡ and_then first next → here ≡ whole → Refused whole fault
 loop-stopped here whole first next fault a step inv = subst (λ j. Refused j fault) (sym step ∙ inv) (stopped first next fault a)
-
-pub drop-at : {A : Type 0} (xs : List A) (i : ℕ) (x : A) → i < length xs → x ≡ get_or xs i x → drop i xs ≡ x ∷ drop (i + 1) xs
-drop-at xs i x l is = drop_more xs i x l ∙ ap (λ y. y ∷ drop (i + 1) xs) (sym is)
 
 module _ (w : World) (vs : Vars) (held : Holding) (actions : List code.Action) (i : ℕ) where
   pub act-at : (a : code.Action) → i < length actions → a ≡ get_or actions i a

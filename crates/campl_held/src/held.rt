@@ -21,10 +21,17 @@ use std::marker::Model;
 ///
 /// Contracts see their list. No look-up scans it. A channel that is given up leaves an empty slot: there are as
 /// many slots as channels were held at first and came since.
-#[derive(Drop)]
 pub struct Held {
     slots: Items<Option<HeldChannel>>,
     places: IndexMap<Name, usize>,
+}
+
+impl Drop for Held {
+    fn drop(self) {
+        let Held { slots, places } = self;
+        drop(slots);
+        drop(places);
+    }
 }
 
 impl Model for Held {

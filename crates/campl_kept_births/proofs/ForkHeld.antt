@@ -1,5 +1,6 @@
 -- A fork: what the process and its child hold.
 use Rattle.std.proofs.Common.{◌≡◌, ◌≢◌, ◌⊎◌, ◌∙◌, inl, inr, refl, sym, ap, subst, ℕ, Bool, true, false, true≢false, ◌∷◌, Some, None}
+use Rattle.std.proofs.lemmas.Bool.{false_from_ne_true}
 use Rattle.campl_machine.specs.Names.{Half, First, End, Process}
 use Rattle.campl_machine.proofs.Updates.{split}
 use Rattle.campl_machine.proofs.Ends.{ne}
@@ -136,16 +137,12 @@ module _ (it : Forking) where
   ]
 
   not-listed : (e : End) → (e ≢ b1) → (e ≢ a1) → (end ≢ e → IsJoined c e → l.place e ≢ At (Process p)) → (lists e r3.ends ≡ false) × (lists e r2.ends ≡ false)
-  not-listed e n m o = (false-of (lists e r3.ends) (λ i. out (own-kind e (inl i))), false-of (lists e r2.ends) (λ i. out (own-kind e (inr i))))
+  not-listed e n m o = (false_from_ne_true (lists e r3.ends) (λ i. out (own-kind e (inl i))), false_from_ne_true (lists e r2.ends) (λ i. out (own-kind e (inr i))))
     where
       out : ((e ≡ b1) ⊎ (e ≡ a1)) ⊎ ((end ≢ e) × (l.place e ≡ At (Process p)) × IsJoined c e) → ⊥
       out (inl (inl i)) = n i
       out (inl (inr i)) = m i
       out (inr (i, j, k)) = o i k j
-
-      false-of : (q : Bool) → (q ≡ true → ⊥) → q ≡ false
-      false-of true h = absurd (h refl)
-      false-of false h = refl
 
   pub end-unlisted : (lists end r3.ends ≡ false) × (lists end r2.ends ≡ false)
   end-unlisted = not-listed end (end-new it 2 First) (end-new it 1 First) (λ n. absurd (n refl))

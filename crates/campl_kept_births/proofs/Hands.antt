@@ -1,5 +1,6 @@
 -- A step of a process that may bear a child, and hand over ends: what it asks, by the ends that the process and the child hold.
-use Rattle.std.proofs.Common.{◌≡◌, ◌≢◌, ◌⊎◌, ◌∙◌, inl, inr, refl, sym, ap, subst, Bool, true, false, true≢false, IsTrue, List, [], ◌∷◌, ◌++◌, Option, Some, None, if◌then◌else◌}
+use Rattle.std.proofs.Common.{◌≡◌, ◌≢◌, ◌⊎◌, ◌∙◌, inl, inr, refl, sym, ap, subst, true, false, true≢false, IsTrue, List, [], ◌∷◌, ◌++◌, Option, Some, None, if◌then◌else◌}
+use Rattle.std.proofs.lemmas.Bool.{false_from_ne_true}
 use Rattle.campl_tree.specs.Plain.Decl.{Program}
 use Rattle.campl_machine.specs.Names.{Path, End, Who, Process}
 use Rattle.campl_machine.specs.Graph.{NoCycle}
@@ -91,16 +92,12 @@ module _ (source : Program) (c d : Configuration) (l : Lawful source c) (p : Pat
 
   -- an end that was elsewhere isn't among them
   pub not-own : (e : End) → IsJoined c e → l.place e ≢ At (Process p) → ((z : End) → from ≡ Some z → l.place e ≢ In z) → (lists e (kin_ends kin) ≡ false) × (lists e r2.ends ≡ false)
-  not-own e j n m = (no (lists e (kin_ends kin)) (λ i. out (h.own_free e (inl i))), no (lists e r2.ends) (λ i. out (h.own_free e (inr i))))
+  not-own e j n m = (false_from_ne_true (lists e (kin_ends kin)) (λ i. out (h.own_free e (inl i))), false_from_ne_true (lists e r2.ends) (λ i. out (h.own_free e (inr i))))
     where
       out : (c.partner e ≡ None) ⊎ ((l.place e ≡ At (Process p)) ⊎ ((z : End) × (from ≡ Some z) × (l.place e ≡ In z))) → ⊥
       out (inl i) = cc (i, j.1)
       out (inr (inl i)) = n i
       out (inr (inr (z, f, i))) = m z f i
-
-      no : (t : Bool) → (t ≡ true → ⊥) → t ≡ false
-      no true k = absurd (k refl)
-      no false k = refl
 
   -- so it stands where it stood
   pub stays : (e : End) → IsJoined c e → l.place e ≢ At (Process p) → ((z : End) → from ≡ Some z → l.place e ≢ In z) → place2 e ≡ l.place e
@@ -159,15 +156,11 @@ module _ (source : Program) (c d : Configuration) (l : Lawful source c) (p : Pat
   -- an end without partner stands nowhere
   nowhere-after : (e : End) → d.partner e ≡ None → place2 e ≡ Gone
   nowhere-after e i =
-      at-other e (no (lists e (kin_ends kin)) (λ a. alone (h.own_joined e (inl a)))) (no (lists e r2.ends) (λ a. alone (h.own_joined e (inr a))))
+      at-other e (false_from_ne_true (lists e (kin_ends kin)) (λ a. alone (h.own_joined e (inl a)))) (false_from_ne_true (lists e r2.ends) (λ a. alone (h.own_joined e (inr a))))
       ∙ h.rest_nowhere e (elim (none-or (c.partner e)) [ inl n ↦ n | inr j ↦ absurd (alone (joined-on e j)) ]) i
     where
       alone : IsJoined d e → ⊥
       alone j = cc (i, j.1)
-
-      no : (t : Bool) → (t ≡ true → ⊥) → t ≡ false
-      no true k = absurd (k refl)
-      no false k = refl
 
   -- what holds of both that are new
   each : (P : Running → Type 0) → P r2 → ((k : Running) → kin ≡ Some k → P k) → (v : Who) (s : Running) → IsNew v (Runs s) → P s

@@ -25,7 +25,8 @@ use Rattle.campl_types.specs.Views.{View}
 use Rattle.campl_evaluation.specs.Evaluation.{Answer, Done, value_of}
 use Rattle.campl_evaluation.specs.Typed.{AreBound, Fine}
 use Rattle.campl_evaluation.proofs.Declared.{typed-world}
-use Rattle.campl_evaluation.proofs.Sources.{filled-nothing, put-fine}
+use Rattle.campl_evaluation.proofs.Sources.{put-fine}
+use Rattle.campl_types.proofs.Compose.{filled-nothing}
 use Rattle.campl_peel.specs.Terms.{Doing, TermIsWellFormed, held_ends}
 use Rattle.campl_peel.specs.Trees.{PlugsAreTrees, RowsHaveTrees}
 use Rattle.campl_meaning.specs.States as k

@@ -1,6 +1,7 @@
 -- Ends that are handed over under other names, with types that are the same but for places.
 use Rattle.std.proofs.Common.{◌≡◌, ◌∙◌, ◌⊎◌, inl, inr, refl, sym, ap, subst, Bool, true, false, ◌||◌, not, IsTrue, List, [], ◌∷◌, ◌++◌, Option, Some, None, map, length, if◌then◌else◌}
 use Rattle.std.proofs.Math.Path.{fun_ext}
+use Rattle.std.proofs.lemmas.Bool.{or_right}
 use Rattle.campl_tree.specs.declared.place.Ident.{Ident}
 use Rattle.campl_tree.specs.declared.service.Side.{Side}
 use Rattle.campl_tree.specs.Plain.ChanType.{ChanType}
@@ -234,11 +235,7 @@ module _ (es : Ends) (once : (x y : Name) (e : End) → found x es ≡ Some e �
   among-from (x ∷ xs) (f ∷ fs) e (i, h) (inl j) = (x, rw (same-itself x) refl, i ∙ ap Some j)
   among-from (x ∷ xs) (f ∷ fs) e (i, h) (inr a) =
       let (y, j, k) = among-from xs fs e h a in
-      (y, go (same_name y x) (is_among y xs) j, k)
-    where
-      go : (p q : Bool) → q ≡ true → (p || q) ≡ true
-      go true q m = refl
-      go false q m = m
+      (y, or_right (same_name y x) (is_among y xs) j, k)
   among-from [] (f ∷ fs) e h a = absurd h
   among-from (x ∷ xs) [] e h a = absurd h
 

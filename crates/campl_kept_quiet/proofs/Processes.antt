@@ -8,7 +8,7 @@ use Rattle.campl_types.specs.World.{World}
 use Rattle.campl_types.specs.Linear.{row_variables, bound}
 use Rattle.campl_evaluation.specs.Typed.{AreBound}
 use Rattle.campl_evaluation.proofs.Bound.{bound-append}
-use Rattle.campl_evaluation.proofs.Sources.{filled-nothing}
+use Rattle.campl_types.proofs.Compose.{filled-nothing}
 use Rattle.campl_meaning.specs.Bodies.{bind, bind_all}
 use Rattle.campl_types.specs.Values.{IsValue, AllAreValues}
 

@@ -26,7 +26,7 @@ use Rattle.campl_meaning.specs.Lawful.{IsAccepted, Lawful}
 use Rattle.campl_progress.proofs.Walk.{progress}
 use Rattle.campl_laws.proofs.All.{all-kept}
 use Rattle.campl_laws.proofs.Answers.{one-ending}
-use Rattle.campl_laws.proofs.Order.{before-itself, not-before, one-first}
+use Rattle.campl_meaning.proofs.Order.{before-itself, not-before, one-first}
 
 -- The first place at which a function has something
 

@@ -29,6 +29,7 @@ use Rattle.campl_seqcheck.specs.Fitting.{fit}
 use Rattle.campl_seqcheck.specs.Judging as values
 use Rattle.campl_seqcheck.specs.Judging.{checked}
 use Rattle.campl_seqcheck.specs.declared.fault.SeqFault.{SeqFault}
+use Rattle.campl_seqcheck.proofs.Answered.{drop-at}
 use Rattle.campl_linear.specs.Faults as plain
 use Rattle.campl_linear.specs.Judged.{from_seq}
 use Rattle.campl_linear.specs.Holding.{Holding, goes_on, given_up, comes}
@@ -37,7 +38,6 @@ use Rattle.campl_linear.specs.Calls.{called}
 use Rattle.campl_linear.specs.Processes.{judge_process}
 use Rattle.campl_linear.specs.Bodies.{judge, judge_rows, judge_branches, judge_cases, judge_parts}
 use Rattle.campl_held.specs.Steps.{acted, acted_all}
-use Rattle.campl_held.proofs.Turns.{drop-at}
 use Rattle.campl_calls.specs.Halting.{halted}
 use Rattle.campl_calls.specs.Identities.{identified}
 use Rattle.campl_calls.specs.Headings.{headed}

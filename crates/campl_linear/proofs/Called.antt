@@ -6,7 +6,7 @@ use Rattle.campl_tree.specs.declared.service.Side.{Side}
 use Rattle.campl_tree.specs.Plain.SeqType.{SeqType}
 use Rattle.campl_tree.specs.Plain.ChanType.{ChanType}
 use Rattle.campl_tree.specs.Plain.Expr as e
-use Rattle.campl_tree.specs.Plain.Expr.{Expr, Exprs}
+use Rattle.campl_tree.specs.Plain.Expr.{Exprs}
 use Rattle.campl_types.specs.Names.{Name, same_name, is_among, are_distinct, found}
 use Rattle.campl_types.specs.Substitution.{variables_of}
 use Rattle.campl_types.specs.SameType.{IsSameChan}
@@ -31,11 +31,12 @@ use Rattle.campl_linear.specs.Channels.{held_at, same_side}
 use Rattle.campl_linear.specs.Calls.{values_fit, as_many, is_as_declared, as_declared, handed}
 use Rattle.campl_linear.proofs.Turns.{in-turn}
 use Rattle.campl_linear.proofs.Lists.{held-given-up, all_given_up}
-use Rattle.campl_linear.proofs.Headings.{ArePlain, stays}
+use Rattle.campl_linear.proofs.Headings.{ArePlain}
 use Rattle.campl_linear.proofs.Uses.{held-is, side-is, side-same}
 use Rattle.campl_types.proofs.Truth.{and-first, and-second, and-both, or-first, or-second, as-false, or-none, no-both, not-true}
 use Rattle.campl_types.proofs.Among.{Apart}
 use Rattle.campl_types.specs.Values.{PartsAreKnown}
+use Rattle.campl_types.proofs.Compose.{filled-nothing}
 
 -- Values
 
@@ -49,7 +50,7 @@ module _ (w : World) (known : PartsAreKnown w) where
       let j = seqs.in-turn (values.judge w vs a (Some t)) (λ u. values_fit w vs ts rest) f i in
       let k = at-wanted w vs a t j.0 (judge-typed w known vs a (Some t) j.0 j.1) in
       let p : variables_of t ≡ [] = h.0 in
-      (rw p (subst (HasType Checked w vs a) (sym (stays t)) k), values-typed vs (names ++ variables_of t) ts rest f h.1 (cc n) j.2)
+      (rw p (subst (HasType Checked w vs a) (sym (filled-nothing t)) k), values-typed vs (names ++ variables_of t) ts rest f h.1 (cc n) j.2)
 
   pub typed-values : (vs us : Vars) → SameVars vs us → (names : List Name) (ts : List SeqType) (args : Exprs) → ArePlain ts → PartsHaveTypes w vs [] names ts args
       → (count_of args ≡ length ts) × (values_fit w us ts args ≡ seq.Is fine)
@@ -58,7 +59,7 @@ module _ (w : World) (known : PartsAreKnown w) where
   typed-values vs us alike names (t ∷ ts) e.no_exprs h d = absurd d
   typed-values vs us alike names (t ∷ ts) (e.expr_then a rest) h d =
       let p : variables_of t ≡ [] = h.0 in
-      let k : HasType Checked w vs a t = subst (HasType Checked w vs a) (stays t) (rw p at d.0) in
+      let k : HasType Checked w vs a t = subst (HasType Checked w vs a) (filled-nothing t) (rw p at d.0) in
       let q = typed-judged w known vs us alike a t (Some t) k refl in
       let r = typed-values vs us alike (names ++ variables_of t) ts rest h.1 d.1 in
       (ap suc r.0, rw q.1 r.1)

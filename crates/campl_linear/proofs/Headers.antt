@@ -19,9 +19,9 @@ use Rattle.campl_peel.specs.Numbered.{outputs_in, inputs_in}
 use Rattle.campl_linear.specs.Plugs.{stands_once, links_are_new, may_stand, names_stand, headers_stand, uses, links_are_used, all_are_used}
 use Rattle.campl_linear.proofs.Turns.{in-turn}
 use Rattle.campl_linear.proofs.Uses.{is-new, side-is, side-same}
-use Rattle.campl_types.proofs.Times.{among-some, among-none}
-use Rattle.campl_linear.proofs.Standing.{at-most-once, on, on-out, on-in}
-use Rattle.campl_types.proofs.Truth.{and-first, and-second, and-both, or-first, or-second, or-split, as-false, or-none, no-both, split}
+use Rattle.campl_types.proofs.Times.{among-some, among-none, at-most-once}
+use Rattle.campl_linear.proofs.Standing.{on, on-out, on-in}
+use Rattle.campl_types.proofs.Truth.{and-first, and-second, and-both, or-first, or-second, or-split, as-false, or-none, no-both, split, not-true}
 use Rattle.campl_types.proofs.Among.{Apart, distinct-append, DistinctFrom, none-distinct, distinct-more, distinct-first, distinct-rest}
 
 -- Where a name may stand
@@ -136,15 +136,11 @@ left-distinct [] bs i = (refl, i, λ x j. refl)
 left-distinct (a ∷ ks) bs i =
     let first : not (is_among a (ks ++ bs)) ≡ true = and-first (not (is_among a (ks ++ bs))) (are_distinct (ks ++ bs)) i in
     let r = left-distinct ks bs (and-second (not (is_among a (ks ++ bs))) (are_distinct (ks ++ bs)) i) in
-    let none : (is_among a ks || is_among a bs) ≡ false = sym (among-append a ks bs) ∙ not-so (is_among a (ks ++ bs)) first in
+    let none : (is_among a ks || is_among a bs) ≡ false = sym (among-append a ks bs) ∙ not-true (is_among a (ks ++ bs)) first in
     let n = or-none (is_among a ks) (is_among a bs) none in
     let p : is_among a ks ≡ false = n.0 in
     (and-both (not (is_among a ks)) (are_distinct ks) (rw p refl) r.0, r.1, λ x j. go x j (same_name x a) refl (r.2 x j) n.1)
   where
-    not-so : (c : Bool) → not c ≡ true → c ≡ false
-    not-so true k = absurd (true≢false (sym k))
-    not-so false k = refl
-
     go : (x : Name) → is_among x bs ≡ true → (c : Bool) → same_name x a ≡ c → is_among x ks ≡ false → is_among a bs ≡ false → (c || is_among x ks) ≡ false
     go x j true e k n = absurd (no-both (is_among a bs) (subst (λ z. is_among z bs ≡ true) (same-is x a e) j) n)
     go x j false e k n = k

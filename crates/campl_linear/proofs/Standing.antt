@@ -1,35 +1,17 @@
 -- How often names stand in headers, and the parts in which they do.
-use Rattle.std.proofs.Common.{◌≡◌, refl, sym, ap, subst, ℕ, zero, suc, ◌+◌, ◌≤◌, arith, Bool, true, false, not, ◌||◌, if◌then◌else◌, List, [], ◌∷◌, true≢false}
+use Rattle.std.proofs.Common.{◌≡◌, refl, ap, ℕ, zero, suc, ◌+◌, ◌≤◌, arith, Bool, true, false, if◌then◌else◌, List, [], ◌∷◌}
 use Rattle.std.specs.List.{AllByRecursion}
 use Rattle.campl_plug.specs.Links.{IsPart, IsWithin}
 use Rattle.campl_tree.specs.declared.place.Ident.{Ident}
 use Rattle.campl_tree.specs.Plain.Process.{Link, Header, Parts, no_parts, part_then}
-use Rattle.campl_types.specs.Names.{Name, same_name, is_among, are_distinct}
+use Rattle.campl_types.specs.Names.{Name, same_name, is_among}
 use Rattle.campl_types.specs.World.{names_of}
-use Rattle.campl_types.specs.Headers.{times, times_in, times_out, one_if, link_names, count}
-use Rattle.campl_types.proofs.Names.{same-is, same-itself}
+use Rattle.campl_types.specs.Headers.{times, times_in, times_out, link_names, count}
+use Rattle.campl_types.proofs.Names.{same-itself}
 use Rattle.campl_types.proofs.Times.{among-none}
 use Rattle.campl_peel.specs.Numbered.{one_up, number_of, outputs_in, inputs_in, joined_parts}
-use Rattle.campl_types.proofs.Truth.{and-first, and-second, or-first, or-second, or-none, not-true}
-
-pub at-most-once : (n : Name) (xs : List Ident) → are_distinct (names_of xs) ≡ true → times n xs ≤ 1
-at-most-once n [] d = omega arith
-at-most-once n (x ∷ xs) d = go (same_name n x.name) refl (at-most-once n xs (and-second (not (is_among x.name (names_of xs))) (are_distinct (names_of xs)) d))
-  where
-    other : is_among x.name (names_of xs) ≡ false
-    other = not-true (is_among x.name (names_of xs)) (and-first (not (is_among x.name (names_of xs))) (are_distinct (names_of xs)) d)
-
-    go : (b : Bool) → same_name n x.name ≡ b → times n xs ≤ 1 → one_if (same_name n x.name) + times n xs ≤ 1
-    go true e h =
-        let k : one_if (same_name n x.name) ≡ 1 = ap one_if e in
-        let l : times n xs ≡ 0 = among-none n xs (subst (λ z. is_among z (names_of xs) ≡ false) (sym (same-is n x.name e)) other) in
-        omega (arith, k, l)
-    go false e h = let k : one_if (same_name n x.name) ≡ 0 = ap one_if e in omega (arith, k, h)
-
--- the sum of what each header weighs
-abbrev pub weight : (Header → ℕ) → Parts → ℕ
-weight f no_parts = 0
-weight f (part_then h body parts) = f h + weight f parts
+use Rattle.campl_peel.proofs.Numbers.{weight}
+use Rattle.campl_types.proofs.Truth.{or-first, or-second}
 
 -- how often a name stands on one side
 abbrev pub on : (Header → List Ident) → Name → Parts → ℕ

@@ -11,6 +11,7 @@ use Rattle.campl_types.specs.World.{World}
 use Rattle.campl_types.specs.Polarity.{Choices, Deed, Gets, Splits, Offers, deed}
 use Rattle.campl_types.specs.Held.{Channel, On}
 use Rattle.campl_types.specs.Linear.{most_branches}
+pub use Rattle.campl_types.specs.Linear.{row_names, branch_names}
 use Rattle.campl_seqcheck.specs.Judged as seq
 use Rattle.campl_seqcheck.specs.Judged.{Fine, fine, Judged, Is, Fails, and_then}
 use Rattle.campl_seqcheck.specs.Fitting.{fit}
@@ -25,10 +26,6 @@ use Rattle.campl_seqcheck.specs.declared.fault.SeqFault.{SeqFault}
 abbrev pub row_type_so : Ident → Name → Used Choices → Option ChanType → Judged LinFault ChanType
 row_type_so k x u None = Fails (WrongAction k.place x u.held_type u.side)
 row_type_so k x u (Some y) = Is y
-
-abbrev pub row_names : HcaseRows → List Name
-row_names b.no_hcase_rows = []
-row_names (b.hcase_row_then k body rows) = k.name ∷ row_names rows
 
 -- the type that remains in a row
 abbrev pub row_type : Ident → Name → Used Choices → Judged LinFault ChanType
@@ -56,10 +53,6 @@ some_row at x u (b.hcase_row_then k body rows) = Is fine
 
 abbrev pub is_between : (least n most : ℕ) → Bool
 is_between least n most = nat_le least n && nat_le n most
-
-abbrev pub branch_names : Branches → List Name
-branch_names b.no_branches = []
-branch_names (b.branch_then x body rows) = x.name ∷ branch_names rows
 
 abbrev pub branch_count : Place → ℕ → Judged LinFault Fine
 branch_count at n = if is_between 2 n most_branches then Is fine else Fails (RaceForm at)

@@ -1,18 +1,9 @@
 -- Updates of a function at listed places.
-use Rattle.std.proofs.Common.{◌≡◌, ◌≢◌, Bool, true, false, List, [], ◌∷◌, ◌&&◌, ◌⊎◌, inl, inr, refl, sym, ap, ◌∙◌, true≢false}
+use Rattle.std.proofs.Common.{◌≡◌, ◌≢◌, Bool, true, false, List, [], ◌∷◌, ◌⊎◌, inl, inr, refl, sym, ap, ◌∙◌, true≢false}
+pub use Rattle.std.proofs.lemmas.Bool.{cases_Bool as split, and_parts as both}
 use Rattle.std.proofs.Math.Path.{fun_ext}
 use Rattle.campl_machine.specs.Names.{TellsApart}
 use Rattle.campl_machine.specs.Machine.{update, Lies}
-
--- a test holds or fails
-pub split : (b : Bool) → (b ≡ true) ⊎ (b ≡ false)
-split true = inl refl
-split false = inr refl
-
--- both halves of an `and` hold
-pub both : (a b : Bool) → a && b ≡ true → (a ≡ true) × (b ≡ true)
-both true b e = (refl, e)
-both false b e = absurd (cc e)
 
 -- different names fail a test
 pub differ : {K : Type 0} → (same : K → K → Bool) → ((a b : K) → same a b ≡ true → a ≡ b) → (a b : K) → a ≢ b → same a b ≡ false

@@ -1,6 +1,6 @@
 -- The top of operands.
 use Rattle.std.proofs.Common.{◌≡◌, ℕ, zero, suc, ◌-◌, ◌<◌, ◌≤◌, List, [], ◌∷◌, ◌++◌, length, reverse, take, drop, Some, None, sym, ap, ◌∙◌, refl, arith, length-drop}
-use Rattle.std.proofs.lemmas.List.{reverse-append, take-append-drop, length-reverse, take_at, drop_at, reverse-reverse}
+use Rattle.std.proofs.lemmas.List.{reverse-append, take-append-drop, length-reverse, take_at, drop_at, reverse-reverse, append_assoc, append-nil}
 use Rattle.campl_value.specs.Tree.{Tree}
 use Rattle.campl_code.specs.Machine.{popped}
 
@@ -18,12 +18,8 @@ parts old taken rest n h =
       sym (drop_at (reverse taken) rest n e) ∙ simp h.1,
     )
 
-append-assoc : {A : Type 0} (xs ys zs : List A) → (xs ++ ys) ++ zs ≡ xs ++ (ys ++ zs)
-append-assoc [] ys zs = refl
-append-assoc (x ∷ xs) ys zs = ap (λ l. x ∷ l) (append-assoc xs ys zs)
-
 reverse-onto : {A : Type 0} (x : A) (xs ys : List A) → reverse (x ∷ xs) ++ ys ≡ reverse xs ++ x ∷ ys
-reverse-onto x xs ys = ap (λ l. l ++ ys) (reverse-append (x ∷ []) xs) ∙ append-assoc (reverse xs) (x ∷ []) ys
+reverse-onto x xs ys = ap (λ l. l ++ ys) (reverse-append (x ∷ []) xs) ∙ append_assoc (reverse xs) (x ∷ []) ys
 
 popped-onto : (n : ℕ) (vs st : List Tree) → n ≤ length st → popped n vs st ≡ Some (reverse (take n st) ++ vs, drop n st)
 popped-onto zero vs st h = refl
@@ -31,10 +27,6 @@ popped-onto (suc n) vs [] h = absurd (omega (arith, h))
 popped-onto (suc n) vs (v ∷ st) h =
     let k : n ≤ length st = omega (arith, h) in
     popped-onto n (v ∷ vs) st k ∙ ap (λ l. Some (l, drop n st)) (sym (reverse-onto v (take n st) vs))
-
-append-nil : {A : Type 0} (xs : List A) → xs ++ [] ≡ xs
-append-nil [] = refl
-append-nil (x ∷ xs) = ap (λ l. x ∷ l) (append-nil xs)
 
 pub popped-is : (n : ℕ) (st : List Tree) → n ≤ length st → popped n [] st ≡ Some (reverse (take n st), drop n st)
 popped-is n st h = popped-onto n [] st h ∙ ap (λ l. Some (l, drop n st)) (append-nil (reverse (take n st)))

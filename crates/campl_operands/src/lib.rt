@@ -12,12 +12,14 @@
 //! ```
 #![tactic(auto)]
 
+mod copying;
 mod effect;
 mod making;
 mod operands;
 mod operations;
 mod variables;
 
+pub use copying::copies;
 pub use effect::{Effect, RowEffect};
 pub use operands::Operands;
 pub use variables::Variables;

@@ -2,6 +2,7 @@
 ghost use Rattle.std.specs.Prelude.{◌≡◌, ◌≤◌, ◌<◌, [], ◌∷◌, length, reverse, take, drop, IfOk, OnOk, MatchOption};
 
 use crate::Variables;
+use crate::copying::copies;
 use campl_value::Value;
 use std::alloc::{AllocError, Global};
 use std::marker::Model;
@@ -39,6 +40,16 @@ impl Operands {
         ensures { result ≡ length self.now }
     {
         self.items.len()
+    }
+
+    /// The same operands, which share their parts with these. An error means that memory is out.
+    pub fn copy(&self, alloc: Global) -> Result<Operands, AllocError>
+        ensures { IfOk result (λ copy. copy ≡ self.now) }
+    {
+        match copies(alloc, self.items.as_slice()) {
+            Err(error) => Err(error),
+            Ok(items) => Ok(Operands { items }),
+        }
     }
 
     /// Puts a value on top. An error means that memory is out.

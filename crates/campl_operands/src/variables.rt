@@ -1,5 +1,5 @@
 //! A frame's variables.
-ghost use Rattle.std.specs.Prelude.{◌≡◌, ◌++◌, ◌-◌, [], ◌∷◌, length, reverse, replicate, slice_get, slice_set, option_map, OnOk};
+ghost use Rattle.std.specs.Prelude.{◌≡◌, ◌++◌, ◌-◌, [], ◌∷◌, length, reverse, replicate, slice_get, slice_set, option_map, IfOk, OnOk};
 ghost use Rattle.std.specs.Option.{option_copied};
 ghost use Rattle.campl_value.specs.Tree.{Nil};
 ghost use Rattle.campl_code.specs.Decisions.{values_at};
@@ -7,6 +7,7 @@ ghost use Rattle.campl_code.specs.Frames.{set_from};
 ghost use Rattle.campl_operands.specs.Effects.{Sets};
 
 use crate::RowEffect;
+use crate::copying::copies;
 use campl_instructions::{Spot, value_at};
 use campl_value::Value;
 use std::alloc::{AllocError, Global};
@@ -38,6 +39,16 @@ impl Variables {
     {
         Variables {
             items: Vec::new(alloc),
+        }
+    }
+
+    /// The same variables, which share their parts with these. An error means that memory is out.
+    pub fn copy(&self, alloc: Global) -> Result<Variables, AllocError>
+        ensures { IfOk result (λ copy. copy ≡ self.now) }
+    {
+        match copies(alloc, self.items.as_slice()) {
+            Err(error) => Err(error),
+            Ok(items) => Ok(Variables { items }),
         }
     }
 

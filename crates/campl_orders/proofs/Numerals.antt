@@ -4,11 +4,8 @@ use Rattle.std.specs.Prelude.{nat_lt, nat_le}
 use Rattle.std.specs.Str.{all_ascii_digits}
 use Rattle.std.specs.Str.Parse.{ParsesUnsigned, digits_value}
 use Rattle.std.proofs.lemmas.Str.Parse.{IsNumeralModel, numerals_by_value, tells_all_ascii_digits, parse_digits}
+use Rattle.std.proofs.lemmas.Bool.{and_parts}
 use Rattle.campl_orders.specs.Numbers.{IsNumber, IsNumberOr, is_numeral, number_in, number_or}
-
-pub both : (a b : Bool) → (a && b) ≡ true → (a ≡ true) × (b ≡ true)
-both true b e = (refl, e)
-both false b e = absurd (let no : ⊥ = cc in no)
 
 own : IsNumeralModel (λ ds. all_ascii_digits ds ≡ true) (digits_value 10)
 own = numerals_by_value (λ ds. all_ascii_digits ds ≡ true) tells_all_ascii_digits
@@ -19,8 +16,8 @@ not_lt n h = omega (arith, h)
 -- digits that are refused write a number that doesn't fit
 pub too_large : {E : Type 0} (word : List ℕ) (r : Result ℕ E) (e : E) → ParsesUnsigned 32 10 word r → r ≡ Err e → is_numeral word ≡ true → 2 ^ 32 ≤ digits_value 10 word
 too_large word r e parsed is numeral =
-    let outer = both (nat_lt 0 (length word) && nat_le (length word) 20) (all_ascii_digits word) numeral in
-    let inner = both (nat_lt 0 (length word)) (nat_le (length word) 20) outer.0 in
+    let outer = and_parts (nat_lt 0 (length word) && nat_le (length word) 20) (all_ascii_digits word) numeral in
+    let inner = and_parts (nat_lt 0 (length word)) (nat_le (length word) 20) outer.0 in
     let refused : (0 < length word) × (digits_value 10 word < 2 ^ 32) → ⊥ = parse_digits own 32 word (Err e) (subst (ParsesUnsigned 32 10 word) is parsed) outer.1 in
     let some : 0 < length word = ltb-true 0 (length word) inner.0 in
     not_lt (digits_value 10 word) (λ fits. refused (some, fits))
@@ -39,10 +36,10 @@ computes-number low high word n = by _ refl
     by : (b : Bool) → (is_numeral word && nat_le low (digits_value 10 word) && nat_le (digits_value 10 word) high) ≡ b → (if b then Some (digits_value 10 word) else None) ≡ Some n → IsNumber low high word n
     by false i e = absurd (let no : ⊥ = cc in no)
     by true i e =
-        let outer = both (is_numeral word && nat_le low (digits_value 10 word)) (nat_le (digits_value 10 word) high) i in
-        let middle = both (is_numeral word) (nat_le low (digits_value 10 word)) outer.0 in
-        let digits = both (nat_lt 0 (length word) && nat_le (length word) 20) (all_ascii_digits word) middle.0 in
-        let count = both (nat_lt 0 (length word)) (nat_le (length word) 20) digits.0 in
+        let outer = and_parts (is_numeral word && nat_le low (digits_value 10 word)) (nat_le (digits_value 10 word) high) i in
+        let middle = and_parts (is_numeral word) (nat_le low (digits_value 10 word)) outer.0 in
+        let digits = and_parts (nat_lt 0 (length word) && nat_le (length word) 20) (all_ascii_digits word) middle.0 in
+        let count = and_parts (nat_lt 0 (length word)) (nat_le (length word) 20) digits.0 in
         let value : digits_value 10 word ≡ n = cc in
         let least = leb-true low (digits_value 10 word) middle.1 in
         let most = leb-true (digits_value 10 word) high outer.1 in

@@ -6,7 +6,7 @@ use Rattle.std.specs.List.{position_or_len, before_first, after_first}
 use Rattle.std.proofs.lemmas.Slice.Eq.{bytes_eq-Decides}
 use Rattle.std.proofs.lemmas.List.Sums.{split_at_first, passes_at_first}
 use Rattle.std.proofs.lemmas.List.Elements.{All-nil, All-cons}
-use Rattle.campl_orders.proofs.Numerals.{both}
+use Rattle.std.proofs.lemmas.Bool.{and_parts}
 use Rattle.campl_orders.specs.Orders.{Part, Given, IsValue, operand, option_word, Writes, nothing, an_operand, apart, joined, operands_alone}
 use Rattle.campl_orders.specs.Reading.{fills, gathered, is_equals, is_value, met, met_apart, met_joined, met_word, option_named, put, put_new}
 use Rattle.campl_orders.specs.declared.found.Slot.{Slot}
@@ -26,7 +26,7 @@ value-passes (c ∷ cs) v = rw (ne_eqb (length (c ∷ cs)) 0 (λ i. omega arith)
 
 pub passes-value : (word : List ℕ) → is_value word ≡ true → IsValue word
 passes-value [] e = absurd (let no : ⊥ = cc in no)
-passes-value (c ∷ cs) e = (λ i. let no : ⊥ = cc in no, λ i. true≢false (sym (both (not (eqb (length (c ∷ cs)) 0)) (not (eqb c 45)) e).1 ∙ ap not (eq-eqb c 45 i)))
+passes-value (c ∷ cs) e = (λ i. let no : ⊥ = cc in no, λ i. true≢false (sym (and_parts (not (eqb (length (c ∷ cs)) 0)) (not (eqb c 45)) e).1 ∙ ap not (eq-eqb c 45 i)))
 
 -- ---- what a word is met as
 

@@ -2,6 +2,7 @@
 use Rattle.std.proofs.Common.{◌≡◌, ◌∙◌, ◌⊎◌, inl, inr, refl, sym, ap, subst, ℕ, zero, suc, ◌+◌, ◌≤◌, arith, Bool, true, false, not, ◌&&◌, List, [], ◌∷◌, Some, length}
 use Rattle.std.proofs.lemmas.List.{length-map}
 use Rattle.std.specs.List.{slice_get}
+use Rattle.std.proofs.lemmas.Bool.{and_parts}
 use Rattle.campl_plug.specs.Links.{IsPart, Joins, Linked, Path, Joined}
 use Rattle.campl_plug.specs.Tree.{IsTree}
 use Rattle.campl_plug.proofs.Paths.{linked-parts, joined-here, joined-more, joined-one, joined-on, joined-turned}
@@ -16,9 +17,8 @@ use Rattle.campl_types.specs.Headers.{links_in, link_names, times, times_in, tim
 use Rattle.campl_types.proofs.Names.{same-is}
 use Rattle.campl_peel.specs.Numbered.{one_up, number_of, outputs_in, inputs_in, joined_by, joined_parts, PlugIsTree}
 use Rattle.campl_peel.specs.Plugging.{stands_in, stands_among, links_to, without_link, held_by_rest, PluggingIsWellFormed}
-use Rattle.campl_types.proofs.Truth.{split, no-both, or-none}
+use Rattle.campl_types.proofs.Truth.{split, no-both, or-none, not-true}
 use Rattle.campl_types.proofs.Times.{among-some, among-none, once}
-use Rattle.campl_peel.proofs.Standing.{and-both}
 use Rattle.campl_peel.proofs.Peeling.{link-uses}
 use Rattle.campl_peel.proofs.Numbers.{weight-out, weight-in, numbered}
 use Rattle.campl_peel.proofs.Plugged.{found-there, pairs-within}
@@ -37,17 +37,13 @@ same-without x (m ∷ links) i = let (a, c) = or-none (same_name x m.name.name) 
 one-fewer : (x : Name) (links : List b.Link) → are_distinct (link_names links) ≡ true → (u : ChanType) → links_in links x ≡ Some u → suc (length (without_link x links)) ≡ length links
 one-fewer x [] i u e = absurd (let no : ⊥ = cc in no)
 one-fewer x (m ∷ links) i u e =
-    let (a, c) = and-both (not (is_among m.name.name (link_names links))) (are_distinct (link_names links)) i in
+    let (a, c) = and_parts (not (is_among m.name.name (link_names links))) (are_distinct (link_names links)) i in
     elim (split (same_name x m.name.name)) [
       | inl s ↦
-          let free : is_among x (link_names links) ≡ false = subst (λ z. is_among z (link_names links) ≡ false) (sym (same-is x m.name.name s)) (not-is (is_among m.name.name (link_names links)) a) in
+          let free : is_among x (link_names links) ≡ false = subst (λ z. is_among z (link_names links) ≡ false) (sym (same-is x m.name.name s)) (not-true (is_among m.name.name (link_names links)) a) in
           rw s (ap (λ ls. suc (length ls)) (same-without x links free))
       | inr s ↦ rw s (let r : suc (length (without_link x links)) ≡ length links = one-fewer x links c u (rw s at e) in omega (arith, r))
     ]
-  where
-    not-is : (c : Bool) → not c ≡ true → c ≡ false
-    not-is true j = absurd (no-both false j refl)
-    not-is false j = refl
 
 -- the link that joins them is there
 link-at : (parts : Parts) (h : Header) (links : List b.Link) (l : b.Link) (more : List b.Link) → links_to parts h links ≡ l ∷ more → (j : ℕ) × (slice_get links j ≡ Some l)

@@ -1,14 +1,15 @@
 -- The links that are left when one is peeled.
 use Rattle.std.proofs.Common.{◌≡◌, ◌∙◌, inl, inr, refl, sym, ap, subst, ◌+◌, ◌≤◌, arith, Bool, true, false, not, ◌&&◌, if◌then◌else◌, List, [], ◌∷◌, Some, None}
 use Rattle.std.proofs.Math.Path.{fun_ext}
+use Rattle.std.proofs.lemmas.Bool.{and_parts}
 use Rattle.campl_tree.specs.Plain.ChanType.{ChanType}
 use Rattle.campl_tree.specs.Plain.Process.{Link, Header, Parts, no_parts, part_then}
 use Rattle.campl_types.specs.Names.{Name, same_name, is_among, are_distinct}
 use Rattle.campl_types.specs.Headers.{links_in, link_names, times, times_in, times_out}
 use Rattle.campl_types.proofs.Names.{same-itself, split-names}
 use Rattle.campl_peel.specs.Plugging.{stands_in, stands_among, links_to, HasOneLinkTo, EachHasOneLink, without_link}
-use Rattle.campl_types.proofs.Truth.{split, no-both, or-none, or-second}
-use Rattle.campl_peel.proofs.Standing.{and-both, stands-some, parts-some}
+use Rattle.campl_types.proofs.Truth.{split, no-both, or-none, or-second, not-true}
+use Rattle.campl_peel.proofs.Standing.{stands-some, parts-some}
 use Rattle.campl_peel.proofs.Peeling.{but}
 
 module _ (parts : Parts) (h : Header) where
@@ -23,7 +24,7 @@ module _ (parts : Parts) (h : Header) where
     | inl t ↦
         let f : m ∷ links_to parts h links ≡ l ∷ more = rw t at e in
         let s : m ≡ l = cc in
-        let (a, b) = and-both (stands_in h m.name.name) (stands_among parts m.name.name) t in
+        let (a, b) = and_parts (stands_in h m.name.name) (stands_among parts m.name.name) t in
         subst (λ z. (links_in (m ∷ links) z.name.name ≡ Some z.channel_type) × (stands_in h z.name.name ≡ true) × (stands_among parts z.name.name ≡ true)) s
         (rw (same-itself m.name.name) refl, a, b)
     | inr t ↦
@@ -98,15 +99,11 @@ not-among x y (m ∷ links) i =
 pub distinct-kept : (x : Name) (links : List Link) → are_distinct (link_names links) ≡ true → are_distinct (link_names (without_link x links)) ≡ true
 distinct-kept x [] i = refl
 distinct-kept x (m ∷ links) i =
-    let (a, b) = and-both (not (is_among m.name.name (link_names links))) (are_distinct (link_names links)) i in
+    let (a, b) = and_parts (not (is_among m.name.name (link_names links))) (are_distinct (link_names links)) i in
     elim (split (same_name x m.name.name)) [
       | inl s ↦ rw s (distinct-kept x links b)
-      | inr s ↦ rw (s, not-among x m.name.name links (not-is (is_among m.name.name (link_names links)) a)) (distinct-kept x links b)
+      | inr s ↦ rw (s, not-among x m.name.name links (not-true (is_among m.name.name (link_names links)) a)) (distinct-kept x links b)
     ]
-  where
-    not-is : (c : Bool) → not c ≡ true → c ≡ false
-    not-is true j = absurd (no-both false j refl)
-    not-is false j = refl
 
 -- where a name stands at most once among the parts, no two of them are joined by it
 pub one-link-kept : (x : Name) (links : List Link) (parts : Parts) → times_in x parts + times_out x parts ≤ 1 → EachHasOneLink links parts → EachHasOneLink (without_link x links) parts

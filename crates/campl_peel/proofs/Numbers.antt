@@ -13,7 +13,7 @@ use Rattle.campl_types.specs.Linear.{IsWellFormed, PartsAreWellFormed}
 use Rattle.campl_peel.specs.Numbered.{part_at, add_part, picked, one_up, number_of, outputs_in, inputs_in}
 use Rattle.campl_types.proofs.Truth.{split}
 use Rattle.campl_types.proofs.Times.{among-some, among-none}
-use Rattle.campl_peel.proofs.Sums.{sum_of, sum_to, sum-first, sum-all, sum-reverse}
+use Rattle.campl_peel.proofs.Sums.{sum_of, sum_to, sum-first, sum-reverse, sum-some}
 
 pub same-pair : (p q : Header × Body) → Some p ≡ Some q → (p.0 ≡ q.0) × (p.1 ≡ q.1)
 same-pair p q e = let s : p ≡ q = cc in (ap (λ (z : Header × Body). z.0) s, ap (λ (z : Header × Body). z.1) s)
@@ -68,7 +68,7 @@ pub weight-all : (f : Header → ℕ) (parts : Parts) (ps : List ℕ) → ((i p 
     → ((i j p : ℕ) → slice_get ps i ≡ Some p → slice_get ps j ≡ Some p → i ≡ j) → ((q : ℕ) → IsPart (count parts) q → (i : ℕ) × (slice_get ps i ≡ Some q))
     → weight f (picked parts (reverse ps)) ≡ weight f parts
 weight-all f parts ps within once each =
-    weight-picked f parts (reverse ps) ∙ sum-reverse (λ p. weight_in f (part_at parts p)) ps ∙ sum-all (count parts) ps (λ p. weight_in f (part_at parts p)) within once each ∙ sym (weight-numbered f parts)
+    weight-picked f parts (reverse ps) ∙ sum-reverse (λ p. weight_in f (part_at parts p)) ps ∙ sum-some (count parts) ps (λ p. weight_in f (part_at parts p)) within once (λ q i. inl (each q i)) ∙ sym (weight-numbered f parts)
 
 -- Each part is there
 

@@ -1,13 +1,14 @@
 -- A well formed plug whose parts are a tree is a well formed plug of which nothing is peeled.
-use Rattle.std.proofs.Common.{◌≡◌, ◌∙◌, inl, inr, refl, sym, ap, subst, ℕ, zero, suc, ◌<◌, ◌≤◌, arith, Bool, true, false, ◌&&◌, if◌then◌else◌, List, [], ◌∷◌, Option, Some, None, map, take, take_all, length, reverse}
+use Rattle.std.proofs.Common.{◌≡◌, ◌∙◌, inl, inr, refl, sym, ap, subst, ℕ, zero, suc, ◌<◌, ◌≤◌, arith, Bool, true, false, ◌&&◌, if◌then◌else◌, List, [], ◌∷◌, Option, Some, None, map, take, take_all, length, reverse, option_map}
 use Rattle.std.proofs.lemmas.List.{reverse-append}
 use Rattle.std.specs.List.{slice_get, AllByRecursion}
+use Rattle.std.proofs.lemmas.Bool.{cases_eq, and_parts}
+use Rattle.std.proofs.lemmas.Option.{slice_get_within, slice_get-map}
 use Rattle.campl_plug.specs.declared.plug.Link.{Link}
 use Rattle.campl_plug.specs.Links.{IsWithin, Joins}
 use Rattle.campl_plug.specs.Tree.{IsTree}
 use Rattle.campl_plug.specs.Order.{IsBreadthFirst, IsLinkBack}
-use Rattle.campl_plug.proofs.Places.{get-there, get-within, get-one, take-one-more}
-use Rattle.campl_plug.proofs.Counts.{same-eqb}
+use Rattle.campl_plug.proofs.Places.{get-there, get-one, take-one-more}
 use Rattle.campl_plug.proofs.Peeled.{starts-at-one, has-one-link-back}
 use Rattle.campl_tree.specs.Plain.ChanType.{ChanType}
 use Rattle.campl_tree.specs.Plain.Process as b
@@ -20,21 +21,9 @@ use Rattle.campl_types.proofs.Names.{same-itself}
 use Rattle.campl_peel.specs.Plugging.{stands_in, stands_among, links_to, HasOneLinkTo, EachHasOneLink}
 use Rattle.campl_peel.specs.Numbered.{part_at, add_part, picked, number_of, outputs_in, inputs_in, joined_by, joined_parts}
 use Rattle.campl_types.proofs.Truth.{split, no-both, or-split, or-second}
-use Rattle.campl_peel.proofs.Standing.{and-both}
+use Rattle.campl_types.proofs.Choices.{get-mapped}
 use Rattle.campl_peel.proofs.Peeling.{link-uses}
 use Rattle.campl_peel.proofs.Numbers.{same-pair, weight, weight-out, weight-in, there, numbered, one-number}
-
--- Lists
-
-get-map : {X Y : Type 0} (g : X → Y) (xs : List X) (i : ℕ) (x : X) → slice_get xs i ≡ Some x → slice_get (map g xs) i ≡ Some (g x)
-get-map g [] i x e = absurd (let no : ⊥ = cc in no)
-get-map g (y ∷ xs) zero x e = let s : y ≡ x = cc in ap (λ z. Some (g z)) s
-get-map g (y ∷ xs) (suc i) x e = get-map g xs i x e
-
-map-get : {X Y : Type 0} (g : X → Y) (xs : List X) (i : ℕ) (y : Y) → slice_get (map g xs) i ≡ Some y → (x : X) × (slice_get xs i ≡ Some x) × (g x ≡ y)
-map-get g [] i y e = absurd (let no : ⊥ = cc in no)
-map-get g (x ∷ xs) zero y e = (x, refl, cc)
-map-get g (x ∷ xs) (suc i) y e = map-get g xs i y e
 
 -- of the links one joins the part to those parts where exactly one passes the test
 module _ (parts : Parts) (h : Header) where
@@ -96,7 +85,7 @@ module _ (parts : Parts) (order : List ℕ) (x : Name) where
   before-stands (suc i) small u p h c less e f s =
       let (q, d) = get-there order i (omega (arith, small)) in
       subst (λ z. stands_among (picked parts z) x ≡ true) (sym (reverse-more order i q d))
-      (elim (same-eqb u i) [
+      (elim (cases_eq u i) [
         | inl same ↦
             let g : p ≡ q = get-one order i p q (subst (λ z. slice_get order z ≡ Some p) same e) d in
             rw (subst (λ z. part_at parts z ≡ Some (h, c)) g f, s) refl
@@ -138,7 +127,7 @@ module _ (links : List b.Link) (held : Held) (parts : Parts) (divide : Divide (l
   module _ (some : 1 ≤ count parts) (tree : IsTree (count parts) (joined_parts links parts)) (order : List ℕ) (first : IsBreadthFirst (count parts) (joined_parts links parts) order) where
     module _ (i q : ℕ) (at : slice_get order i ≡ Some q) (h : Header) (c : Body) (is : part_at parts q ≡ Some (h, c)) where
       small : i ≤ length order
-      small = let e : i < length order = get-within order i q at in omega (arith, e)
+      small = let e : i < length order = slice_get_within order i q at in omega (arith, e)
 
       earlier : Parts
       earlier = picked parts (reverse (take i order))
@@ -147,11 +136,11 @@ module _ (links : List b.Link) (held : Held) (parts : Parts) (divide : Divide (l
       is-back : (j : ℕ) (m : b.Link) → slice_get links j ≡ Some m → (stands_in h m.name.name && stands_among (picked parts (reverse (take i order))) m.name.name) ≡ true
           → IsLinkBack (joined_parts links parts) order q j
       is-back j m e t =
-          let (here, there) = and-both (stands_in h m.name.name) (stands_among (picked parts (reverse (take i order))) m.name.name) t in
+          let (here, there) = and_parts (stands_in h m.name.name) (stands_among (picked parts (reverse (take i order))) m.name.name) t in
           let (u, p, g, d, less, pos, isp, stands) = stands-before parts order m.name.name i small there in
           let (o, n) = once-each j m e in
           let apart : p ≡ q → ⊥ = (λ s. let z : u ≡ i = first.once u i q (pos ∙ ap Some s) at in omega (arith, z, less)) in
-          (joined_by parts m, p, get-map (joined_by parts) links j m e, joins p g d isp stands o n apart here, (u, i, less, pos, at))
+          (joined_by parts m, p, slice_get-map (joined_by parts) links j ∙ ap (option_map (joined_by parts)) e, joins p g d isp stands o n apart here, (u, i, less, pos, at))
         where
           joins : (p : ℕ) (g : Header) (d : Body) → part_at parts p ≡ Some (g, d) → stands_in g m.name.name ≡ true
               → weight (λ z. times m.name.name (outputs_in z)) parts ≡ 1 → weight (λ z. times m.name.name (inputs_in z)) parts ≡ 1 → (p ≡ q → ⊥) → stands_in h m.name.name ≡ true
@@ -175,7 +164,7 @@ module _ (links : List b.Link) (held : Held) (parts : Parts) (divide : Divide (l
       back-is : (j : ℕ) → IsLinkBack (joined_parts links parts) order q j
           → (m : b.Link) × (slice_get links j ≡ Some m) × ((stands_in h m.name.name && stands_among (picked parts (reverse (take i order))) m.name.name) ≡ true)
       back-is j (pair, p, e, joins, (u, v, less, pos, pos')) =
-          let (m, f, same) = map-get (joined_by parts) links j pair e in
+          let (m, f, same) = get-mapped (joined_by parts) links j pair e in
           let z : v ≡ i = first.once v i q pos' at in
           let (o, n) = once-each j m f in
           let (ho, co, ato, to, parto) = numbered outputs_in m.name.name parts (omega (arith, o)) in

@@ -1,5 +1,6 @@
 -- Where names stand, and how often.
-use Rattle.std.proofs.Common.{◌≡◌, inl, inr, refl, ◌+◌, ◌≤◌, arith, Bool, true, false, ◌&&◌}
+use Rattle.std.proofs.Common.{◌≡◌, inl, inr, refl, ◌+◌, ◌≤◌, arith, true, false}
+pub use Rattle.std.proofs.lemmas.Bool.{and_parts as and-both}
 use Rattle.campl_tree.specs.Plain.Process.{Header, Parts, no_parts, part_then}
 use Rattle.campl_types.specs.Names.{Name, is_among}
 use Rattle.campl_types.specs.World.{names_of}
@@ -7,12 +8,6 @@ use Rattle.campl_types.specs.Headers.{times, times_in, times_out}
 use Rattle.campl_types.proofs.Truth.{no-both, or-split, or-none}
 use Rattle.campl_types.proofs.Times.{among-some, among-none}
 use Rattle.campl_peel.specs.Plugging.{stands_in, stands_among}
-
--- Tests
-
-pub and-both : (a b : Bool) → (a && b) ≡ true → (a ≡ true) × (b ≡ true)
-and-both true b i = (refl, i)
-and-both false b i = absurd (no-both false i refl)
 
 -- In headers
 

@@ -1,17 +1,7 @@
 -- How many parts pass a test.
-use Rattle.std.proofs.Common.{◌≡◌, ℕ, zero, suc, ◌+◌, ◌≤◌, ◌⊎◌, inl, inr, Bool, true, false, eqb, refl, sym, ap, subst, arith}
-use Rattle.std.proofs.lemmas.Bool.{eqb-true, eqb-false}
+use Rattle.std.proofs.Common.{◌≡◌, ℕ, zero, suc, ◌+◌, ◌≤◌, inl, inr, Bool, true, false, refl, sym, ap, subst, arith}
+use Rattle.std.proofs.lemmas.Bool.{cases_eq}
 use Rattle.campl_plug.specs.Links.{IsPart}
-
-pub split : (b : Bool) → (b ≡ true) ⊎ (b ≡ false)
-split true = inl refl
-split false = inr refl
-
-pub apart-eqb : (m n : ℕ) → (m ≡ n → ⊥) → eqb m n ≡ false
-apart-eqb m n h = elim (split (eqb m n)) [ inl i ↦ absurd (h (eqb-true m n i)) | inr i ↦ i ]
-
-pub same-eqb : (m n : ℕ) → (m ≡ n) ⊎ (m ≡ n → ⊥)
-same-eqb m n = elim (split (eqb m n)) [ inl i ↦ inl (eqb-true m n i) | inr i ↦ inr (eqb-false m n i) ]
 
 abbrev pub one : Bool → ℕ
 one true = 1
@@ -22,7 +12,7 @@ abbrev pub passing : (ℕ → Bool) → ℕ → ℕ
 passing t zero = 0
 passing t (suc k) = one (t (suc k)) + passing t k
 
-part-up : (k p : ℕ) → IsPart k p → IsPart (suc k) p
+pub part-up : (k p : ℕ) → IsPart k p → IsPart (suc k) p
 part-up k p h = record { low = h.low; high = omega (arith, h.high) }
 
 pub passing-same : (s t : ℕ → Bool) (k : ℕ) → ((p : ℕ) → IsPart k p → s p ≡ t p) → passing s k ≡ passing t k
@@ -35,7 +25,7 @@ passing-same s t (suc k) h =
 -- where one part more passes, there is one more
 pub passing-more : (s t : ℕ → Bool) (k x : ℕ) → IsPart k x → s x ≡ false → t x ≡ true → ((p : ℕ) → IsPart k p → (p ≡ x → ⊥) → s p ≡ t p) → passing t k ≡ suc (passing s k)
 passing-more s t zero x i a b h = absurd (omega (arith, i.low, i.high))
-passing-more s t (suc k) x i a b h = elim (same-eqb x (suc k)) [
+passing-more s t (suc k) x i a b h = elim (cases_eq x (suc k)) [
   | inl e ↦
       let f : one (s (suc k)) ≡ 0 = ap one (subst (λ z. s z ≡ false) e a) in
       let g : one (t (suc k)) ≡ 1 = ap one (subst (λ z. t z ≡ true) e b) in
@@ -50,7 +40,7 @@ passing-more s t (suc k) x i a b h = elim (same-eqb x (suc k)) [
 
 pub passing-some : (t : ℕ → Bool) (k x : ℕ) → IsPart k x → t x ≡ true → 1 ≤ passing t k
 passing-some t zero x i e = absurd (omega (arith, i.low, i.high))
-passing-some t (suc k) x i e = elim (same-eqb x (suc k)) [
+passing-some t (suc k) x i e = elim (cases_eq x (suc k)) [
   | inl s ↦ let g : one (t (suc k)) ≡ 1 = ap one (subst (λ z. t z ≡ true) s e) in omega (arith, g)
   | inr s ↦
       let low : x ≤ k = omega (arith, i.high, s) in

@@ -1,19 +1,21 @@
 -- The labels of the links so far, and the first link that closes a cycle.
 use Rattle.std.proofs.Common.{◌≡◌, ℕ, zero, suc, ◌+◌, ◌<◌, ◌≤◌, inl, inr, List, [], ◌∷◌, ◌++◌, Some, length, get_or, map, take, take_all, refl, sym, subst, ◌∙◌, arith, add-one, eq-eqb}
-use Rattle.std.proofs.lemmas.List.{length-map}
+use Rattle.std.proofs.lemmas.List.{length-map, get_or_default}
 use Rattle.std.specs.List.{slice_get, slice_index}
+use Rattle.std.proofs.lemmas.Bool.{cases_eq, ne_eqb}
+use Rattle.std.proofs.lemmas.Option.{slice_get_within}
 use Rattle.campl_plug.specs.declared.plug.Link.{Link}
 use Rattle.campl_plug.specs.Links.{IsPart, IsWithin, Joined}
 use Rattle.campl_plug.specs.Tree.{AreReached, ClosesCycle, HasNoCycle, IsFirstCycle, IsLeastApart}
 use Rattle.campl_plug.specs.Labels.{IsLabelling, AreLabels, relabel_of}
-use Rattle.campl_plug.proofs.Places.{get-within, get-any, get-one, take-one-more}
+use Rattle.campl_plug.proofs.Places.{get-one, take-one-more}
 use Rattle.campl_plug.proofs.Paths.{joined-labels}
-use Rattle.campl_plug.proofs.Counts.{same-eqb, apart-eqb, passing, passing-some}
+use Rattle.campl_plug.proofs.Counts.{passing, passing-some}
 use Rattle.campl_plug.proofs.Labelled.{is_root, own-labelling, own-roots, new-labelling, new-roots}
 
 -- a label that is read
 pub label-read : (k : ℕ) (labels : List ℕ) → length labels ≡ k + 1 → (p : ℕ) → IsPart k p → (x : ℕ) → x ≡ get_or labels p x → x ≡ slice_index labels p
-label-read k labels size p part x e = e ∙ get-any labels p x 0 (let h : p ≤ k = part.high in omega (arith, h, size))
+label-read k labels size p part x e = e ∙ get_or_default labels p x 0 (let h : p ≤ k = part.high in omega (arith, h, size))
 
 -- a label of a changed list
 map-index : (r : ℕ → ℕ) → r 0 ≡ 0 → (xs : List ℕ) (p : ℕ) → get_or (map r xs) p 0 ≡ r (get_or xs p 0)
@@ -62,7 +64,7 @@ module _ (k : ℕ) (links : List Link) (i : ℕ) (labels : List ℕ) (s : FreeSo
   free-more apart = record {
     size = length-map labels r ∙ s.size;
     labelling = subst (λ z. IsLabelling k z g) (sym more) (new-labelling k (take i links) f s.labelling l w apart g is);
-    free = λ j h. elim (same-eqb j i) [
+    free = λ j h. elim (cases_eq j i) [
       | inl e ↦ λ (m, a, joined).
           let same : m ≡ l = get-one links i m l (subst (λ z. slice_get links z ≡ Some m) e a) at in
           apart (joined-labels (take i links) f s.labelling.linked l.a l.b (subst (λ z. Joined (take i links) z.a z.b) same (subst (λ z. Joined (take z links) m.a m.b) e joined)))
@@ -77,7 +79,7 @@ module _ (k : ℕ) (links : List Link) (i : ℕ) (labels : List ℕ) (s : FreeSo
       r = relabel_of (slice_index labels l.a) (slice_index labels l.b)
 
       zero-kept : r 0 ≡ 0
-      zero-kept = rw (apart-eqb 0 (slice_index labels l.a) (λ e. let low : 1 ≤ slice_index labels l.a = (s.labelling.inside l.a w.a_part).low in omega (arith, low, e))) refl
+      zero-kept = rw (ne_eqb 0 (slice_index labels l.a) (λ e. let low : 1 ≤ slice_index labels l.a = (s.labelling.inside l.a w.a_part).low in omega (arith, low, e))) refl
 
       g : ℕ → ℕ
       g = slice_index (map r labels)
@@ -91,7 +93,7 @@ module _ (k : ℕ) (links : List Link) (i : ℕ) (labels : List ℕ) (s : FreeSo
 pub free-last : (k : ℕ) (links : List Link) (labels : List ℕ) (i : ℕ) → length links ≤ i → FreeSoFar k links i labels → AreLabels k links labels × HasNoCycle links
 free-last k links labels i past s = (
   record { size = s.size; labelling = subst (λ z. IsLabelling k z (slice_index labels)) (take_all i links past) s.labelling },
-  λ j c. s.free j (let (l, at, joined) = c in let h : j < length links = get-within links j l at in omega (arith, h, past)) c,
+  λ j c. s.free j (let (l, at, joined) = c in let h : j < length links = slice_get_within links j l at in omega (arith, h, past)) c,
 )
 
 -- a part with another label than part 1 is apart

@@ -1,6 +1,6 @@
 -- The fault that is computed is the fault of the links.
 use Rattle.std.proofs.Common.{◌≡◌, ℕ, zero, suc, ◌+◌, ◌<◌, ◌≤◌, inl, inr, eqb, if◌then◌else◌, List, [], ◌∷◌, ◌++◌, Option, Some, None, length, map, drop, refl, sym, ap, subst, ◌∙◌, arith, add-one, length-append}
-use Rattle.std.proofs.lemmas.Bool.{eq-eqb}
+use Rattle.std.proofs.lemmas.Bool.{eq-eqb, cases_eq, ne_eqb}
 use Rattle.std.specs.List.{slice_get, slice_index, AllByRecursion}
 use Rattle.campl_plug.specs.declared.plug.Link.{Link}
 use Rattle.campl_plug.specs.declared.plug.PlugFault.{PlugFault}
@@ -10,11 +10,11 @@ use Rattle.campl_plug.specs.Tree.{IsTree, AreReached, HasNoCycle}
 use Rattle.campl_plug.specs.Faults.{IsFaultOf}
 use Rattle.campl_plug.specs.Labels.{AreLabels, relabel_of}
 use Rattle.campl_plug.proofs.Paths.{within-at}
-use Rattle.campl_plug.proofs.Counts.{same-eqb, apart-eqb}
 use Rattle.campl_plug.proofs.Trees.{exactly}
 use Rattle.campl_plug.proofs.Cycles.{FreeSoFar, free-first, free-closes, free-more, free-last, least-apart, all-reached}
 use Rattle.campl_plug.proofs.OneFault.{tree-has-no-fault, one-fault}
 use Rattle.campl_plug.specs.FirstFault.{own_labels, or_else, first_apart, fault_from, fault_of}
+use Rattle.campl_plug.proofs.Counts.{part-up}
 
 own-size : (k : ℕ) → length (own_labels k) ≡ k + 1
 own-size zero = refl
@@ -32,7 +32,7 @@ index-last (x ∷ xs) y (suc p) h = index-last xs y p (omega (arith, h))
 
 own-is : (k p : ℕ) → p < k + 1 → slice_index (own_labels k) p ≡ p
 own-is zero p h = let e : p ≡ 0 = omega (arith, h) in rw e refl
-own-is (suc k) p h = elim (same-eqb p (suc k)) [
+own-is (suc k) p h = elim (cases_eq p (suc k)) [
   | inl e ↦ index-last (own_labels k) (suc k) p (let s : length (own_labels k) ≡ k + 1 = own-size k in omega (arith, e, s)) ∙ sym e
   | inr e ↦ index-front (own_labels k) (suc k ∷ []) p (let s : length (own_labels k) ≡ k + 1 = own-size k in omega (arith, e, h, s)) ∙ own-is k p (omega (arith, e, h))
 ]
@@ -58,21 +58,18 @@ abbrev TellsOther : ℕ → List ℕ → Option PlugFault → Type 0
 TellsOther n labels (Some fault) = LeastOther n labels fault
 TellsOther n labels None = SameUpTo n labels
 
-up-one : (n q : ℕ) → IsPart n q → IsPart (suc n) q
-up-one n q i = record { low = i.low; high = omega (arith, i.high) }
-
 others : (n : ℕ) (labels : List ℕ) → TellsOther n labels (first_apart n labels)
 others zero labels = λ q i. absurd (omega (arith, i.low, i.high))
 others (suc n) labels = go (first_apart n labels) (others n labels)
   where
     go : (o : Option PlugFault) → TellsOther n labels o → TellsOther (suc n) labels (or_else o (if eqb (slice_index labels (suc n)) (slice_index labels 1) then None else Some (Apart (suc n))))
-    go (Some fault) (p, e, i, ne, least) = (p, e, up-one n p i, ne, λ q j h. least q (record { low = j.low; high = omega (arith, h, i.high) }) h)
-    go None same = elim (same-eqb (slice_index labels (suc n)) (slice_index labels 1)) [
-      | inl e ↦ rw (eq-eqb (slice_index labels (suc n)) (slice_index labels 1) e) (λ q i. elim (same-eqb q (suc n)) [
+    go (Some fault) (p, e, i, ne, least) = (p, e, part-up n p i, ne, λ q j h. least q (record { low = j.low; high = omega (arith, h, i.high) }) h)
+    go None same = elim (cases_eq (slice_index labels (suc n)) (slice_index labels 1)) [
+      | inl e ↦ rw (eq-eqb (slice_index labels (suc n)) (slice_index labels 1) e) (λ q i. elim (cases_eq q (suc n)) [
         | inl s ↦ ap (slice_index labels) s ∙ e
         | inr s ↦ same q (record { low = i.low; high = omega (arith, i.high, s) })
       ])
-      | inr ne ↦ rw (apart-eqb (slice_index labels (suc n)) (slice_index labels 1) ne)
+      | inr ne ↦ rw (ne_eqb (slice_index labels (suc n)) (slice_index labels 1) ne)
           (suc n, refl, record { low = omega arith; high = omega arith }, ne, λ q i h. same q (record { low = i.low; high = omega (arith, h) }))
     ]
 
@@ -90,9 +87,9 @@ module _ (k : ℕ) (links : List Link) (within : AllByRecursion (IsWithin k) lin
       nothing-left [] i e = omega arith
       nothing-left (x ∷ xs) zero e = absurd (let no : ⊥ = cc in no)
       nothing-left (x ∷ xs) (suc i) e = let h : length xs ≤ i = nothing-left xs i e in omega (arith, h)
-  tells i labels (l ∷ rest) e s = elim (same-eqb (slice_index labels l.a) (slice_index labels l.b)) [
+  tells i labels (l ∷ rest) e s = elim (cases_eq (slice_index labels l.a) (slice_index labels l.b)) [
     | inl h ↦ rw (eq-eqb (slice_index labels l.a) (slice_index labels l.b) h) (free-closes k links i labels s l at w h, no-memory-cycle i)
-    | inr h ↦ rw (apart-eqb (slice_index labels l.a) (slice_index labels l.b) h)
+    | inr h ↦ rw (ne_eqb (slice_index labels l.a) (slice_index labels l.b) h)
         (tells (suc i) (map (relabel_of (slice_index labels l.a) (slice_index labels l.b)) labels) rest (one-more links i e)
         (subst (λ j. FreeSoFar k links j (map (relabel_of (slice_index labels l.a) (slice_index labels l.b)) labels)) (add-one i) (free-more k links i labels s l at w h)))
   ]

@@ -1,12 +1,11 @@
 -- The new neighbours of a part, found in order of their number.
 use Rattle.std.proofs.Common.{◌≡◌, ℕ, zero, suc, ◌+◌, ◌<◌, ◌⊎◌, inl, inr, Bool, true, false, eqb, ◌&&◌, not, ◌↔◌, IsTrue, get_or, List, [], ◌∷◌, ◌++◌, Some, length, sym, ap, subst, ◌∙◌, arith}
-use Rattle.std.proofs.lemmas.Bool.{eqb-true, eq-eqb}
+use Rattle.std.proofs.lemmas.Bool.{eqb-true, eq-eqb, cases_Bool, cases_eq}
 use Rattle.std.specs.List.{slice_get, list_any}
 use Rattle.campl_plug.specs.declared.plug.Link.{Link}
 use Rattle.campl_plug.specs.Links.{IsPart, Linked}
 use Rattle.campl_plug.specs.Search.{AreNewNeighbours}
 use Rattle.campl_plug.proofs.Places.{get-front, get-back, get-split}
-use Rattle.campl_plug.proofs.Counts.{split, same-eqb}
 
 -- of the new neighbours those below a bound are found
 pub record FoundBelow (k : ℕ) (links : List Link) (order : List ℕ) (p bound : ℕ) (found : List ℕ) : Type 0 where
@@ -39,7 +38,7 @@ found-all k links order p bound found past f = record {
 -- what a search of the list says
 pub any-there : (xs : List ℕ) (q : ℕ) → list_any (λ x. eqb x q) xs ≡ true → (i : ℕ) × (slice_get xs i ≡ Some q)
 any-there [] q e = absurd (let z : ⊥ = cc in z)
-any-there (x ∷ xs) q e = elim (split (eqb x q)) [
+any-there (x ∷ xs) q e = elim (cases_Bool (eqb x q)) [
   | inl i ↦ (zero, ap Some (eqb-true x q i))
   | inr i ↦ let (j, f) = any-there xs q (rw i at e) in (suc j, f)
 ]
@@ -50,7 +49,7 @@ any-nowhere (x ∷ xs) q zero e f =
     let s : x ≡ q = cc in
     let g : true ≡ false = rw (eq-eqb x q s) at e in
     let z : ⊥ = cc in z
-any-nowhere (x ∷ xs) q (suc i) e f = elim (split (eqb x q)) [
+any-nowhere (x ∷ xs) q (suc i) e f = elim (cases_Bool (eqb x q)) [
   | inl h ↦ (let g : true ≡ false = rw h at e in let z : ⊥ = cc in z)
   | inr h ↦ any-nowhere xs q i (rw h at e) f
 ]
@@ -64,7 +63,7 @@ module _ (k : ℕ) (links : List Link) (order : List ℕ) (p bound : ℕ) (found
     below = λ i q e. let h : q < bound = f.below i q e in omega (arith, h);
     linked = f.linked;
     unseen = f.unseen;
-    each = λ q part h l. elim (same-eqb q bound) [
+    each = λ q part h l. elim (cases_eq q bound) [
       | inl s ↦ let (i, e) = other (subst (Linked links p) s l) in inl (i, e ∙ ap Some (sym s))
       | inr s ↦ f.each q part (omega (arith, h, s)) l
     ];
@@ -87,7 +86,7 @@ module _ (k : ℕ) (links : List Link) (order : List ℕ) (p bound : ℕ) (found
     below = λ i q e. elim (cases i q e) [ inl x ↦ (let h : q < bound = f.below i q x.1 in omega (arith, h)) | inr x ↦ omega (arith, x.1) ];
     linked = λ i q e. elim (cases i q e) [ inl x ↦ f.linked i q x.1 | inr x ↦ subst (Linked links p) x.1 link ];
     unseen = λ i j q e g. elim (cases i q e) [ inl x ↦ f.unseen i j q x.1 g | inr x ↦ fresh j (g ∙ ap Some (sym x.1)) ];
-    each = λ q here h l. elim (same-eqb q bound) [
+    each = λ q here h l. elim (cases_eq q bound) [
       | inl s ↦ inr (length found, get-back found (bound ∷ []) (length found) 0 q (omega arith) (ap Some (sym s)))
       | inr s ↦ elim (f.each q here (omega (arith, h, s)) l) [
         | inl x ↦ inl x
@@ -110,8 +109,8 @@ module _ (k : ℕ) (links : List Link) (order : List ℕ) (p bound : ℕ) (found
 module _ (k : ℕ) (links : List Link) (order : List ℕ) (p bound : ℕ) (found : List ℕ) (f : FoundBelow k links order p bound found)
     (marks : List Bool) (marked : (q : ℕ) → IsTrue (get_or marks q false) ↔ Linked links p q) where
   pub found-yes : IsPart k bound → (get_or marks bound false && not (list_any (λ x. eqb x bound) order)) ≡ true → FoundBelow k links order p (bound + 1) (found ++ bound ∷ [])
-  found-yes part e = elim (split (get_or marks bound false)) [
-    | inl m ↦ elim (split (list_any (λ x. eqb x bound) order)) [
+  found-yes part e = elim (cases_Bool (get_or marks bound false)) [
+    | inl m ↦ elim (cases_Bool (list_any (λ x. eqb x bound) order)) [
       | inl a ↦ absurd (let g : false ≡ true = rw (m, a) at e in let z : ⊥ = cc in z)
       | inr a ↦ found-more k links order p bound found f part ((marked bound).0 m) (λ i. any-nowhere order bound i a)
     ]
@@ -119,8 +118,8 @@ module _ (k : ℕ) (links : List Link) (order : List ℕ) (p bound : ℕ) (found
   ]
 
   pub found-no : (get_or marks bound false && not (list_any (λ x. eqb x bound) order)) ≡ false → FoundBelow k links order p (bound + 1) found
-  found-no e = elim (split (get_or marks bound false)) [
-    | inl m ↦ elim (split (list_any (λ x. eqb x bound) order)) [
+  found-no e = elim (cases_Bool (get_or marks bound false)) [
+    | inl m ↦ elim (cases_Bool (list_any (λ x. eqb x bound) order)) [
       | inl a ↦ found-same k links order p bound found f (λ l. any-there order bound a)
       | inr a ↦ absurd (let g : true ≡ false = rw (m, a) at e in let z : ⊥ = cc in z)
     ]

@@ -1,11 +1,11 @@
 -- What one more link makes of a labelling.
 use Rattle.std.proofs.Common.{◌≡◌, ℕ, zero, suc, inl, inr, Bool, true, eqb, List, [], ◌∷◌, ◌++◌, refl, sym, ap, subst, ◌∙◌}
-use Rattle.std.proofs.lemmas.Bool.{eq-eqb}
+use Rattle.std.proofs.lemmas.Bool.{eq-eqb, ne_eqb, cases_eq}
 use Rattle.campl_plug.specs.declared.plug.Link.{Link}
 use Rattle.campl_plug.specs.Links.{IsPart, IsWithin, Linked, Joined}
 use Rattle.campl_plug.specs.Labels.{IsLabelling, relabel_of}
 use Rattle.campl_plug.proofs.Paths.{linked-back, linked-last, joined-one, joined-on, joined-turned, joined-front}
-use Rattle.campl_plug.proofs.Counts.{apart-eqb, same-eqb, passing, passing-same, passing-more, passing-all}
+use Rattle.campl_plug.proofs.Counts.{passing, passing-same, passing-more, passing-all}
 
 -- the part has itself for its label
 abbrev pub is_root : (ℕ → ℕ) → ℕ → Bool
@@ -26,7 +26,7 @@ relabel-hit : (from to : ℕ) (n : ℕ) → n ≡ from → relabel_of from to n 
 relabel-hit from to n e = rw (eq-eqb n from e) refl
 
 relabel-miss : (from to : ℕ) (n : ℕ) → (n ≡ from → ⊥) → relabel_of from to n ≡ n
-relabel-miss from to n e = rw (apart-eqb n from e) refl
+relabel-miss from to n e = rw (ne_eqb n from e) refl
 
 module _ (k : ℕ) (links : List Link) (f : ℕ → ℕ) (lab : IsLabelling k links f) (l : Link) (w : IsWithin k l) where
   -- a link between joined parts changes no label
@@ -71,25 +71,25 @@ module _ (k : ℕ) (links : List Link) (f : ℕ → ℕ) (lab : IsLabelling k li
         (joined-on (links ++ l ∷ []) l.a l.b q (joined-one (links ++ l ∷ []) l.a l.b here) (old l.b q w.b_part j (sym b)))
 
     new_joined : (p q : ℕ) → IsPart k p → IsPart k q → g p ≡ g q → Joined (links ++ l ∷ []) p q
-    new_joined p q i j e = elim (same-eqb (f p) (f l.a)) [
-      | inl a ↦ elim (same-eqb (f q) (f l.a)) [
+    new_joined p q i j e = elim (cases_eq (f p) (f l.a)) [
+      | inl a ↦ elim (cases_eq (f q) (f l.a)) [
         | inl b ↦ old p q i j (a ∙ sym b)
         | inr b ↦ across p q i j a (sym (g-miss q b) ∙ (sym e ∙ g-hit p a))
       ]
-      | inr a ↦ elim (same-eqb (f q) (f l.a)) [
+      | inr a ↦ elim (cases_eq (f q) (f l.a)) [
         | inl b ↦ joined-turned (links ++ l ∷ []) q p (across q p j i b (sym (g-miss p a) ∙ (e ∙ g-hit q b)))
         | inr b ↦ old p q i j (sym (g-miss p a) ∙ (e ∙ g-miss q b))
       ]
     ]
 
     new_inside : (p : ℕ) → IsPart k p → IsPart k (g p)
-    new_inside p i = elim (same-eqb (f p) (f l.a)) [
+    new_inside p i = elim (cases_eq (f p) (f l.a)) [
       | inl a ↦ subst (IsPart k) (sym (g-hit p a)) (lab.inside l.b w.b_part)
       | inr a ↦ subst (IsPart k) (sym (g-miss p a)) (lab.inside p i)
     ]
 
     new_own : (p : ℕ) → IsPart k p → g (g p) ≡ g p
-    new_own p i = elim (same-eqb (f p) (f l.a)) [
+    new_own p i = elim (cases_eq (f p) (f l.a)) [
       | inl a ↦
           let e : f (f l.b) ≡ f l.b = lab.own l.b w.b_part in
           ap g (g-hit p a) ∙ (g-miss (f l.b) (λ h. apart (sym h ∙ e)) ∙ (e ∙ sym (g-hit p a)))
@@ -105,13 +105,13 @@ module _ (k : ℕ) (links : List Link) (f : ℕ → ℕ) (lab : IsLabelling k li
     -- and the label of a is one that no part has any more
     pub new-roots : passing (is_root f) k ≡ suc (passing (is_root g) k)
     new-roots = passing-more (is_root g) (is_root f) k (f l.a) (lab.inside l.a w.a_part)
-        (apart-eqb (g (f l.a)) (f l.a) (λ h. apart (sym h ∙ g-hit (f l.a) (lab.own l.a w.a_part))))
+        (ne_eqb (g (f l.a)) (f l.a) (λ h. apart (sym h ∙ g-hit (f l.a) (lab.own l.a w.a_part))))
         (eq-eqb (f (f l.a)) (f l.a) (lab.own l.a w.a_part))
-        (λ p i ne. elim (same-eqb (f p) (f l.a)) [
+        (λ p i ne. elim (cases_eq (f p) (f l.a)) [
           | inl a ↦
-              apart-eqb (g p) p (λ h.
+              ne_eqb (g p) p (λ h.
               let t : f l.b ≡ p = sym (g-hit p a) ∙ h in
               apart (sym a ∙ (ap f (sym t) ∙ lab.own l.b w.b_part)))
-              ∙ sym (apart-eqb (f p) p (λ h. ne (sym h ∙ a)))
+              ∙ sym (ne_eqb (f p) p (λ h. ne (sym h ∙ a)))
           | inr a ↦ ap (λ z. eqb z p) (g-miss p a)
         ])

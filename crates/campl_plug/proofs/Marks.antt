@@ -1,11 +1,11 @@
 -- Marks of the parts that links join to a part.
 use Rattle.std.proofs.Common.{◌≡◌, ℕ, zero, suc, ◌+◌, ◌<◌, ◌⊎◌, ◌↔◌, inl, inr, Bool, true, false, IsTrue, List, [], ◌∷◌, ◌++◌, Some, None, length, get_or, set, take, replicate, refl, sym, ap, subst, ◌∙◌, add-one, get_or-set_other, get_or-set_same}
 use Rattle.std.specs.List.{slice_get}
+use Rattle.std.proofs.lemmas.Bool.{cases_eq}
 use Rattle.campl_plug.specs.declared.plug.Link.{Link}
 use Rattle.campl_plug.specs.Links.{Joins, Linked}
 use Rattle.campl_plug.proofs.Places.{take-one-more}
 use Rattle.campl_plug.proofs.Paths.{linked-front, linked-back, linked-last}
-use Rattle.campl_plug.proofs.Counts.{same-eqb}
 
 -- marked are the parts that the first i links join to p
 abbrev pub AreMarked : List Bool → List Link → ℕ → ℕ → Type 0
@@ -41,7 +41,7 @@ module _ (links : List Link) (i p : ℕ) (l : Link) (at : slice_get links i ≡ 
 
   -- and one that joins it marks its other end
   pub marked-more : (e : ℕ) → e < length marks → ((q : ℕ) → (Some e ≡ Some q) ↔ Joins l p q) → AreMarked (set marks e true) links (i + 1) p
-  marked-more e small other q = elim (same-eqb q e) [
+  marked-more e small other q = elim (cases_eq q e) [
     | inl s ↦ (
       (λ h. subst (λ z. Linked z p q) (sym more) (linked-back (take i links) (l ∷ []) p q (inl ((other q).0 (ap Some (sym s)))))),
       (λ h. subst (λ z. IsTrue (get_or (set marks e true) z false)) (sym s) (get_or-set_same marks e true false small)),

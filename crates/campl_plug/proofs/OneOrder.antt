@@ -1,11 +1,12 @@
 -- There is one breadth-first order of a tree.
 use Rattle.std.proofs.Common.{◌≡◌, ℕ, zero, suc, ◌+◌, ◌<◌, ◌≤◌, ◌⊎◌, inl, inr, List, Some, None, length, sym, ap, subst, ◌∙◌, arith}
 use Rattle.std.specs.List.{slice_get, AllByRecursion}
+use Rattle.std.proofs.lemmas.Option.{slice_get_within}
 use Rattle.campl_plug.specs.declared.plug.Link.{Link}
 use Rattle.campl_plug.specs.Links.{IsWithin}
 use Rattle.campl_plug.specs.Tree.{IsTree}
 use Rattle.campl_plug.specs.Order.{IsDistance, IsPredecessor, IsBefore, HasEarlierPredecessor, HasLowerNumber, ComesFirst, IsBreadthFirst}
-use Rattle.campl_plug.proofs.Places.{get-there, get-within, get-one, get-cases, same-places}
+use Rattle.campl_plug.proofs.Places.{get-there, get-one, get-cases, same-places}
 use Rattle.campl_plug.proofs.Peeled.{order-cases, one-distance, no-farther, not-both, has-distance, one-predecessor}
 
 module _ (k : ℕ) (links : List Link) (within : AllByRecursion (IsWithin k) links) (some : 1 ≤ k) (tree : IsTree k links)
@@ -91,7 +92,7 @@ module _ (k : ℕ) (links : List Link) (within : AllByRecursion (IsWithin k) lin
                 let t : m ≡ i = b2.once m i q f e in
                 omega (arith, t, g))
             | inr g ↦ absurd (
-                let small : m < length o1 = get-within o1 m q em in
+                let small : m < length o1 = slice_get_within o1 m q em in
                 let low : i < length o1 = elim g [ inl t ↦ omega (arith, t, small) | inr t ↦ omega (arith, t, small) ] in
                 let (x, ex) = get-there o1 i low in
                 let z : Some x ≡ None = sym ex ∙ none in
@@ -102,7 +103,7 @@ module _ (k : ℕ) (links : List Link) (within : AllByRecursion (IsWithin k) lin
     where
       later : (i j p : ℕ) → slice_get o1 i ≡ Some p → slice_get o2 j ≡ Some p → i < j → ((m : ℕ) → m < i → slice_get o1 m ≡ slice_get o2 m) → ⊥
       later i j p e ej late same =
-          let (q, eq) = get-there o2 i (let s : j < length o2 = get-within o2 j p ej in omega (arith, s, late)) in
+          let (q, eq) = get-there o2 i (let s : j < length o2 = slice_get_within o2 j p ej in omega (arith, s, late)) in
           let (m, em) = b1.each_part q (b2.parts_alone i q eq) in
           elim (order-cases m i) [
             | inl g ↦

@@ -1,6 +1,6 @@
 -- The order that is computed is the breadth-first order.
-use Rattle.std.proofs.Common.{◌≡◌, ℕ, zero, suc, ◌+◌, ◌≤◌, ◌⊎◌, inl, inr, Bool, true, false, ◌&&◌, ◌||◌, eqb, List, [], ◌∷◌, ◌++◌, None, length, refl, sym, ap, subst, arith, add-one}
-use Rattle.std.proofs.lemmas.Bool.{eqb-true, eq-eqb}
+use Rattle.std.proofs.Common.{◌≡◌, ℕ, zero, suc, ◌+◌, ◌≤◌, inl, inr, Bool, true, false, ◌&&◌, eqb, List, [], ◌∷◌, ◌++◌, None, length, refl, sym, subst, arith, add-one, append-nil}
+use Rattle.std.proofs.lemmas.Bool.{eqb-true, eq-eqb, and_parts, or_cases, or_right}
 use Rattle.std.specs.List.{slice_get, list_any, AllByRecursion}
 use Rattle.campl_plug.specs.declared.plug.Link.{Link}
 use Rattle.campl_plug.specs.Links.{IsWithin, Joins, Linked}
@@ -13,31 +13,19 @@ use Rattle.campl_plug.proofs.Found.{FoundBelow, found-none, found-all, found-sam
 use Rattle.campl_plug.proofs.Searched.{AreSearched, searched-first, searched-more, once-length, search-is-breadth-first}
 use Rattle.campl_plug.specs.TreeOrder.{joins, is_linked, new_neighbours, searched, tree_order_of}
 
-both : (a b : Bool) → (a && b) ≡ true → (a ≡ true) × (b ≡ true)
-both true b e = (refl, e)
-both false b e = absurd (let no : ⊥ = cc in no)
-
-either : (a b : Bool) → (a || b) ≡ true → (a ≡ true) ⊎ (b ≡ true)
-either true b e = inl refl
-either false b e = inr e
-
-or-right : (a b : Bool) → b ≡ true → (a || b) ≡ true
-or-right true b e = refl
-or-right false b e = e
-
 joins-is : (l : Link) (p q : ℕ) → joins l p q ≡ true → Joins l p q
-joins-is l p q e = elim (either (eqb l.a p && eqb l.b q) (eqb l.a q && eqb l.b p) e) [
-  | inl h ↦ let (a, b) = both (eqb l.a p) (eqb l.b q) h in inl (eqb-true l.a p a, eqb-true l.b q b)
-  | inr h ↦ let (a, b) = both (eqb l.a q) (eqb l.b p) h in inr (eqb-true l.a q a, eqb-true l.b p b)
+joins-is l p q e = elim (or_cases (eqb l.a p && eqb l.b q) (eqb l.a q && eqb l.b p) e) [
+  | inl h ↦ let (a, b) = and_parts (eqb l.a p) (eqb l.b q) h in inl (eqb-true l.a p a, eqb-true l.b q b)
+  | inr h ↦ let (a, b) = and_parts (eqb l.a q) (eqb l.b p) h in inr (eqb-true l.a q a, eqb-true l.b p b)
 ]
 
 is-joins : (l : Link) (p q : ℕ) → Joins l p q → joins l p q ≡ true
 is-joins l p q (inl (a, b)) = rw (eq-eqb l.a p a, eq-eqb l.b q b) refl
-is-joins l p q (inr (a, b)) = or-right (eqb l.a p && eqb l.b q) (eqb l.a q && eqb l.b p) (rw (eq-eqb l.a q a, eq-eqb l.b p b) refl)
+is-joins l p q (inr (a, b)) = or_right (eqb l.a p && eqb l.b q) (eqb l.a q && eqb l.b p) (rw (eq-eqb l.a q a, eq-eqb l.b p b) refl)
 
 linked-is : (links : List Link) (p q : ℕ) → is_linked links p q ≡ true → Linked links p q
 linked-is [] p q e = absurd (let no : ⊥ = cc in no)
-linked-is (l ∷ links) p q e = elim (either (joins l p q) (is_linked links p q) e) [
+linked-is (l ∷ links) p q e = elim (or_cases (joins l p q) (is_linked links p q) e) [
   | inl h ↦ inl (joins-is l p q h)
   | inr h ↦ inr (linked-is links p q h)
 ]
@@ -45,11 +33,7 @@ linked-is (l ∷ links) p q e = elim (either (joins l p q) (is_linked links p q)
 is-linked : (links : List Link) (p q : ℕ) → Linked links p q → is_linked links p q ≡ true
 is-linked [] p q h = absurd h
 is-linked (l ∷ links) p q (inl h) = rw (is-joins l p q h) refl
-is-linked (l ∷ links) p q (inr h) = or-right (joins l p q) (is_linked links p q) (is-linked links p q h)
-
-empty : (xs : List ℕ) → xs ++ [] ≡ xs
-empty [] = refl
-empty (x ∷ xs) = ap (λ ys. x ∷ ys) (empty xs)
+is-linked (l ∷ links) p q (inr h) = or_right (joins l p q) (is_linked links p q) (is-linked links p q h)
 
 module _ (k : ℕ) (links : List Link) where
   -- the new neighbours up to n
@@ -61,11 +45,11 @@ module _ (k : ℕ) (links : List Link) where
     where
       go : FoundBelow k links order p (suc n) (new_neighbours n links order p) → (a b : Bool) → is_linked links p (suc n) ≡ a → list_any (λ x. eqb x (suc n)) order ≡ b
           → FoundBelow k links order p (suc n + 1) (new_neighbours (suc n) links order p)
-      go old true true i j = rw (i, j) (subst (FoundBelow k links order p (suc n + 1)) (sym (empty (new_neighbours n links order p)))
+      go old true true i j = rw (i, j) (subst (FoundBelow k links order p (suc n + 1)) (sym (append-nil (new_neighbours n links order p)))
           (found-same k links order p (suc n) (new_neighbours n links order p) old (λ l. any-there order (suc n) j)))
       go old true false i j = rw (i, j)
           (found-more k links order p (suc n) (new_neighbours n links order p) old (record { low = omega arith; high = h }) (linked-is links p (suc n) i) (λ m. any-nowhere order (suc n) m j))
-      go old false b i j = rw i (subst (FoundBelow k links order p (suc n + 1)) (sym (empty (new_neighbours n links order p)))
+      go old false b i j = rw i (subst (FoundBelow k links order p (suc n + 1)) (sym (append-nil (new_neighbours n links order p)))
           (found-same k links order p (suc n) (new_neighbours n links order p) old (λ l. absurd (let e : is_linked links p (suc n) ≡ true = is-linked links p (suc n) l in let no : ⊥ = cc in no))))
 
   are-new : (order : List ℕ) (p : ℕ) → AreNewNeighbours k links order p (new_neighbours k links order p)

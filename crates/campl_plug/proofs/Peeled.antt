@@ -1,13 +1,13 @@
 -- In the breadth-first order each part but the first has one link to those before it.
 use Rattle.std.proofs.Common.{◌≡◌, ℕ, zero, suc, ◌+◌, ◌<◌, ◌≤◌, ◌⊎◌, inl, inr, List, [], ◌∷◌, Some, length, refl, sym, ap, subst, ◌∙◌, arith, add-one}
 use Rattle.std.specs.List.{slice_get, AllByRecursion}
+use Rattle.std.proofs.lemmas.Bool.{cases_eq}
 use Rattle.campl_plug.specs.declared.plug.Link.{Link}
 use Rattle.campl_plug.specs.Links.{IsPart, IsWithin, Joins, Path, Joined}
 use Rattle.campl_plug.specs.Tree.{IsTree}
 use Rattle.campl_plug.specs.Order.{IsDistance, IsPredecessor, IsBefore, ComesFirst, IsBreadthFirst, IsLinkBack, HasOneLinkBack}
 use Rattle.campl_plug.proofs.Places.{get-there, get-one}
 use Rattle.campl_plug.proofs.Paths.{linked-parts, at-linked, joined-here, joined-more}
-use Rattle.campl_plug.proofs.Counts.{same-eqb}
 use Rattle.campl_plug.proofs.Trees.{without, linked-without, none-spared}
 
 pub order-cases : (i j : ℕ) → (i < j) ⊎ ((i ≡ j) ⊎ (j < i))
@@ -53,7 +53,7 @@ module _ (k : ℕ) (links : List Link) (order : List ℕ) (b : IsBreadthFirst k 
     first-part = record { low = omega arith; high = some }
 
     pub has-distance : (q : ℕ) → IsPart k q → (n : ℕ) × IsDistance links q n
-    has-distance q part = elim (same-eqb 1 q) [
+    has-distance q part = elim (cases_eq 1 q) [
       | inl e ↦ (0, subst (λ z. IsDistance links z 0) e (first-distance links))
       | inr ne ↦
           let (i, ei) = b.each_part 1 first-part in
@@ -138,7 +138,7 @@ module _ (k : ℕ) (links : List Link) (order : List ℕ) (b : IsBreadthFirst k 
       reach : (fuel m r : ℕ) → m < fuel → slice_get order m ≡ Some r → Joined rest 1 r
       unfolding rest
       reach zero m r h e = absurd (omega (arith, h))
-      reach (suc fuel) m r h e = elim (same-eqb r 1) [
+      reach (suc fuel) m r h e = elim (cases_eq r 1) [
         | inl s ↦ subst (Joined rest 1) (sym s) (joined-here rest 1)
         | inr off ↦
             let (s, ps) = predecessor-of r (b.parts_alone m r e) off in
@@ -147,7 +147,7 @@ module _ (k : ℕ) (links : List Link) (order : List ℕ) (b : IsBreadthFirst k 
             let to-s : Joined rest 1 s = reach fuel x s (omega (arith, at-m, lt, h)) ex in
             let (t, lt', att, jt) = at-linked links s r ps.linked in
             let (l, p, atj, jj, before) = two in
-            elim (same-eqb t j) [
+            elim (cases_eq t j) [
               | inr other ↦ joined-more rest 1 s r to-s (linked-without links j t lt' s r att other jt)
               | inl same ↦
                   let ls : lt' ≡ l = get-one links j lt' l (subst (λ z. slice_get links z ≡ Some lt') same att) atj in
@@ -171,7 +171,7 @@ module _ (k : ℕ) (links : List Link) (order : List ℕ) (b : IsBreadthFirst k 
           none-spared k links within some tree j l atj (λ r part. let (m, e) = b.each_part r part in reach (suc m) m r (omega arith) e)
 
     pub one-link-back : IsTree k links → (q i j : ℕ) → IsLinkBack links order q i → IsLinkBack links order q j → i ≡ j
-    one-link-back tree q i j one two = elim (same-eqb i j) [ inl e ↦ e | inr ne ↦ absurd (two-links-back q i j one two ne tree) ]
+    one-link-back tree q i j one two = elim (cases_eq i j) [ inl e ↦ e | inr ne ↦ absurd (two-links-back q i j one two ne tree) ]
 
     pub has-one-link-back : IsTree k links → (q : ℕ) → IsPart k q → (q ≡ 1 → ⊥) → HasOneLinkBack links order q
     has-one-link-back tree q part ne =

@@ -1,5 +1,5 @@
 -- Places in lists.
-use Rattle.std.proofs.Common.{◌≡◌, ℕ, zero, suc, ◌+◌, ◌<◌, ◌≤◌, ◌⊎◌, inl, inr, List, [], ◌∷◌, ◌++◌, Some, None, length, get_or, take, refl, ap, arith}
+use Rattle.std.proofs.Common.{◌≡◌, ℕ, zero, suc, ◌+◌, ◌<◌, ◌⊎◌, inl, inr, List, [], ◌∷◌, ◌++◌, Some, None, length, take, refl, ap, arith}
 use Rattle.std.specs.List.{slice_get}
 
 pub get-front : {X : Type 0} (xs ys : List X) (i : ℕ) (x : X) → slice_get xs i ≡ Some x → slice_get (xs ++ ys) i ≡ Some x
@@ -26,30 +26,14 @@ get-there [] i h = absurd (omega (arith, h))
 get-there (x ∷ xs) zero h = (x, refl)
 get-there (x ∷ xs) (suc i) h = get-there xs i (omega (arith, h))
 
-pub get-within : {X : Type 0} (xs : List X) (i : ℕ) (x : X) → slice_get xs i ≡ Some x → i < length xs
-get-within [] i x e = absurd (let h : ⊥ = cc in h)
-get-within (y ∷ xs) zero x e = omega arith
-get-within (y ∷ xs) (suc i) x e = let h : i < length xs = get-within xs i x e in omega (arith, h)
-
 -- the front of a list, once what follows it is cut off
 pub seam : {X : Type 0} (n : ℕ) (xs ys : List X) → n ≡ length xs → take n (xs ++ ys) ≡ xs
 seam n [] ys e = rw e refl
 seam zero (x ∷ xs) ys e = absurd (omega (arith, e))
 seam (suc n) (x ∷ xs) ys e = ap (λ zs. x ∷ zs) (seam n xs ys (omega (arith, e)))
 
--- inside the list any default will do
-pub get-any : {X : Type 0} (xs : List X) (i : ℕ) (d e : X) → i < length xs → get_or xs i d ≡ get_or xs i e
-get-any [] i d e h = absurd (omega (arith, h))
-get-any (x ∷ xs) zero d e h = refl
-get-any (x ∷ xs) (suc i) d e h = get-any xs i d e (omega (arith, h))
-
 pub get-one : {X : Type 0} (xs : List X) (i : ℕ) (x y : X) → slice_get xs i ≡ Some x → slice_get xs i ≡ Some y → x ≡ y
 get-one xs i x y e f = cc
-
-pub get-none : {X : Type 0} (xs : List X) (i : ℕ) → length xs ≤ i → slice_get xs i ≡ None
-get-none [] i h = refl
-get-none (x ∷ xs) zero h = absurd (omega (arith, h))
-get-none (x ∷ xs) (suc i) h = get-none xs i (omega (arith, h))
 
 -- at a place of xs, or past its end
 pub get-cases : {X : Type 0} (xs : List X) (i : ℕ) → ((x : X) × (slice_get xs i ≡ Some x)) ⊎ (slice_get xs i ≡ None)

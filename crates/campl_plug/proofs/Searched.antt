@@ -1,14 +1,15 @@
 -- The search: what its order is like after each step, and at the end.
 use Rattle.std.proofs.Common.{◌≡◌, ℕ, zero, suc, ◌+◌, ◌<◌, ◌≤◌, ◌⊎◌, inl, inr, Bool, true, false, eqb, ltb, if◌then◌else◌, List, [], ◌∷◌, ◌++◌, Some, length, refl, sym, ap, subst, arith, length-append}
-use Rattle.std.proofs.lemmas.Bool.{eq-eqb}
+use Rattle.std.proofs.lemmas.Bool.{eq-eqb, cases_Bool, cases_eq, ne_eqb, ltb-false}
 use Rattle.std.specs.List.{slice_get}
+use Rattle.std.proofs.lemmas.Option.{slice_get_within}
 use Rattle.campl_plug.specs.declared.plug.Link.{Link}
 use Rattle.campl_plug.specs.Links.{IsPart, Linked, Path}
 use Rattle.campl_plug.specs.Tree.{AreReached}
 use Rattle.campl_plug.specs.Order.{IsDistance, IsPredecessor, IsBefore, ComesFirst, IsBreadthFirst}
 use Rattle.campl_plug.specs.Search.{AreNewNeighbours}
-use Rattle.campl_plug.proofs.Places.{get-front, get-back, get-split, get-there, get-within, get-one}
-use Rattle.campl_plug.proofs.Counts.{split, same-eqb, apart-eqb, passing, passing-more, passing-none, passing-within}
+use Rattle.campl_plug.proofs.Places.{get-front, get-back, get-split, get-there, get-one}
+use Rattle.campl_plug.proofs.Counts.{passing, passing-more, passing-none, passing-within}
 
 -- the search has been through the first n parts of its order; the part at place j came by the one at place up j
 pub record Searched (k : ℕ) (links : List Link) (n : ℕ) (order : List ℕ) (up : ℕ → ℕ) : Type 0 where
@@ -55,23 +56,20 @@ module _ (k : ℕ) (links : List Link) (n : ℕ) (order : List ℕ) (up : ℕ �
 
   next-old : (j : ℕ) → j < length order → next j ≡ up j
   unfolding next came_by
-  next-old j h = elim (split (ltb j (length order))) [
+  next-old j h = elim (cases_Bool (ltb j (length order))) [
     | inl i ↦ rw i refl
     | inr i ↦ absurd (omega (arith, h, ltb-false j (length order) i))
   ]
-    where
-      ltb-false : (a b : ℕ) → ltb a b ≡ false → b ≤ a
-      ltb-false a b e = grind (arith, e)
 
   next-new : (j m : ℕ) → j ≡ length order + m → next j ≡ n
   unfolding next came_by
-  next-new j m h = elim (split (ltb j (length order))) [
+  next-new j m h = elim (cases_Bool (ltb j (length order))) [
     | inl i ↦ absurd (let g : j < length order = grind (arith, i) in omega (arith, g, h))
     | inr i ↦ rw i refl
   ]
 
   wide : suc n ≤ length order
-  wide = let h : n < length order = get-within order n p here in omega (arith, h)
+  wide = let h : n < length order = slice_get_within order n p here in omega (arith, h)
 
   -- in the order as it grows a part is old, or one of those found
   cases : (j q : ℕ) → slice_get (order ++ found) j ≡ Some q → ((j < length order) × (slice_get order j ≡ Some q)) ⊎ ((m : ℕ) × (j ≡ length order + m) × (slice_get found m ≡ Some q))
@@ -90,9 +88,9 @@ module _ (k : ℕ) (links : List Link) (n : ℕ) (order : List ℕ) (up : ℕ �
   ]
     where
       found_once : (i j q : ℕ) → slice_get found i ≡ Some q → slice_get found j ≡ Some q → i ≡ j
-      found_once i j q a b = elim (same-eqb i j) [
+      found_once i j q a b = elim (cases_eq i j) [
         | inl e ↦ e
-        | inr e ↦ elim (split (ltb i j)) [
+        | inr e ↦ elim (cases_Bool (ltb i j)) [
           | inl h ↦ absurd (let g : i < j = grind (arith, h) in let r : q < q = new.rising i j q q g a b in omega (arith, r))
           | inr h ↦ absurd (let g : j < i = grind (arith, h, e) in let r : q < q = new.rising j i q q g b a in omega (arith, r))
         ]
@@ -150,13 +148,13 @@ module _ (k : ℕ) (links : List Link) (n : ℕ) (order : List ℕ) (up : ℕ �
       let (t, g) = get-there order i small in
       let same : t ≡ q = get-one (order ++ found) i t q (get-front order found i t g) e in
       let old : slice_get order i ≡ Some q = subst (λ z. slice_get order i ≡ Some z) same g in
-      elim (same-eqb i n) [
+      elim (cases_eq i n) [
         | inl at ↦ elim (new.each r (parts q r l) (subst (λ z. Linked links z r) (get-one order n q p (subst (λ z. slice_get order z ≡ Some q) at old) here) l)) [
           | inl there ↦ (
             there.0,
             get-front order found there.0 r there.1,
             λ pos.
-                let o : next there.0 ≡ up there.0 = next-old there.0 (get-within order there.0 r there.1) in
+                let o : next there.0 ≡ up there.0 = next-old there.0 (slice_get_within order there.0 r there.1) in
                 let u : (up there.0 < n) × (up there.0 < there.0) = s.later there.0 r there.1 pos in
                 omega (arith, o, u.0, at),
           )
@@ -173,7 +171,7 @@ module _ (k : ℕ) (links : List Link) (n : ℕ) (order : List ℕ) (up : ℕ �
               there.0,
               get-front order found there.0 r there.1,
               λ pos.
-                  let o : next there.0 ≡ up there.0 = next-old there.0 (get-within order there.0 r there.1) in
+                  let o : next there.0 ≡ up there.0 = next-old there.0 (slice_get_within order there.0 r there.1) in
                   let u : up there.0 ≤ i = there.2 pos in
                   omega (arith, o, u),
             )
@@ -205,7 +203,7 @@ Once xs = (i j p : ℕ) → slice_get xs i ≡ Some p → slice_get xs j ≡ Som
 
 unseen : (xs : List ℕ) (p : ℕ) → ((i : ℕ) → slice_get xs i ≡ Some p → ⊥) → seen xs p ≡ false
 unseen [] p h = refl
-unseen (x ∷ xs) p h = rw (apart-eqb x p (λ e. h zero (ap Some e))) (unseen xs p (λ i. h (suc i)))
+unseen (x ∷ xs) p h = rw (ne_eqb x p (λ e. h zero (ap Some e))) (unseen xs p (λ i. h (suc i)))
 
 seen-all : (k : ℕ) (xs : List ℕ) → ((i p : ℕ) → slice_get xs i ≡ Some p → IsPart k p) → Once xs → passing (seen xs) k ≡ length xs
 seen-all k [] parts once = passing-none k
@@ -214,7 +212,7 @@ seen-all k (x ∷ xs) parts once =
     let more : passing (seen (x ∷ xs)) k ≡ suc (passing (seen xs) k) = passing-more (seen xs) (seen (x ∷ xs)) k x (parts zero x refl)
     (unseen xs x (λ i e. absurd (let h : zero ≡ suc i = once zero (suc i) x refl e in omega (arith, h))))
     (rw (eq-eqb x x refl) refl)
-    (λ p part ne. rw (apart-eqb x p (λ e. ne (sym e))) refl) in
+    (λ p part ne. rw (ne_eqb x p (λ e. ne (sym e))) refl) in
     omega (arith, r, more)
 
 pub once-length : (k : ℕ) (xs : List ℕ) → ((i p : ℕ) → slice_get xs i ≡ Some p → IsPart k p) → Once xs → length xs ≤ k
@@ -269,7 +267,7 @@ module _ (k : ℕ) (links : List Link) (order : List ℕ) (up : ℕ → ℕ) (s 
   deep-rises n zero j b h g = let e : deep 0 ≡ 0 = deep-first in omega (arith, e)
   deep-rises n (suc i) zero b h g = absurd (omega (arith, h))
   deep-rises zero (suc i) (suc j) b h g = absurd (omega (arith, b))
-  deep-rises (suc n) (suc i) (suc j) b h g = elim (same-eqb (suc i) (suc j)) [
+  deep-rises (suc n) (suc i) (suc j) b h g = elim (cases_eq (suc i) (suc j)) [
     | inl e ↦ let r : deep (suc i) ≡ deep (suc j) = ap deep e in omega (arith, r)
     | inr e ↦
         let a : deep (suc i) ≡ suc (deep (up (suc i))) = deep-later (suc i) (omega arith) (omega (arith, h, g)) in
@@ -291,7 +289,7 @@ module _ (k : ℕ) (links : List Link) (order : List ℕ) (up : ℕ → ℕ) (s 
   deep-path n zero q b e = subst (λ z. Path links z 1 q) (sym deep-first) (get-one order 0 1 q s.first e)
   deep-path zero (suc j) q b e = absurd (omega (arith, b))
   deep-path (suc n) (suc j) q b e =
-      let t : suc j < length order = get-within order (suc j) q e in
+      let t : suc j < length order = slice_get_within order (suc j) q e in
       let u : up (suc j) ≤ j = below j t in
       let (r, f) = get-there order (up (suc j)) (omega (arith, u, t)) in
       let c : deep (suc j) ≡ suc (deep (up (suc j))) = deep-later (suc j) (omega arith) t in
@@ -302,14 +300,14 @@ module _ (k : ℕ) (links : List Link) (order : List ℕ) (up : ℕ → ℕ) (s 
   path-deep zero q e = (0, subst (λ z. slice_get order 0 ≡ Some z) e s.first, omega (arith, deep-first))
   path-deep (suc m) q (r, path, last) =
       let (i, e, d) = path-deep m r path in
-      let t : i < length order = get-within order i r e in
+      let t : i < length order = slice_get_within order i r e in
       let (j, f, by) = s.closed i r q t e last in (
         j,
         f,
-        elim (same-eqb j 0) [
+        elim (cases_eq j 0) [
           | inl z ↦ let c : deep j ≡ deep 0 = ap deep z in omega (arith, c, deep-first)
           | inr z ↦
-              let c : deep j ≡ suc (deep (up j)) = deep-later j (omega (arith, z)) (get-within order j q f) in
+              let c : deep j ≡ suc (deep (up j)) = deep-later j (omega (arith, z)) (slice_get_within order j q f) in
               let u : up j ≤ i = by (omega (arith, z)) in
               let v : deep (up j) ≤ deep i = deep-rises i (up j) i (omega arith) u t in
               omega (arith, c, v, d)
@@ -328,19 +326,19 @@ module _ (k : ℕ) (links : List Link) (order : List ℕ) (up : ℕ → ℕ) (s 
   -- the part that q came by is its predecessor
   came-by : (j r q : ℕ) → 0 < j → slice_get order j ≡ Some q → slice_get order (up j) ≡ Some r → IsPredecessor links r q
   came-by j r q h e f =
-      let c : deep j ≡ suc (deep (up j)) = deep-later j h (get-within order j q e) in
+      let c : deep j ≡ suc (deep (up j)) = deep-later j h (slice_get_within order j q e) in
       let d : deep j ≡ deep (up j) + 1 = omega (arith, c) in
       record { linked = s.linked j r q e h f; nearer = (deep (up j), distance (up j) r f, subst (IsDistance links q) d (distance j q e)) }
 
   in_order : (p q : ℕ) → IsBefore order p q → ComesFirst links order p q
   in_order p q (i, j, h, a, b) =
-      let t : j < length order = get-within order j q b in
+      let t : j < length order = slice_get_within order j q b in
       let r : deep i ≤ deep j = deep-rises j i j (omega arith) (omega (arith, h)) t in
-      elim (same-eqb (deep i) (deep j)) [
+      elim (cases_eq (deep i) (deep j)) [
         | inr e ↦ inl (deep i, deep j, distance i p a, distance j q b, omega (arith, e, r))
         | inl e ↦
             let c : deep j ≡ suc (deep (up j)) = deep-later j (omega (arith, h)) t in
-            let pos : 0 < i = elim (same-eqb i 0) [
+            let pos : 0 < i = elim (cases_eq i 0) [
               | inl z ↦ absurd (let d : deep i ≡ deep 0 = ap deep z in omega (arith, d, deep-first, e, c))
               | inr z ↦ omega (arith, z)
             ] in

@@ -1,6 +1,6 @@
 -- How many links join the parts.
 use Rattle.std.proofs.Common.{◌≡◌, ℕ, zero, suc, ◌+◌, ◌≤◌, ◌⊎◌, inl, inr, false, List, [], ◌∷◌, ◌++◌, Some, length, take, take_all, refl, sym, ap, subst, ◌∙◌, arith}
-use Rattle.std.proofs.lemmas.Bool.{eq-eqb}
+use Rattle.std.proofs.lemmas.Bool.{eq-eqb, ne_eqb, cases_eq}
 use Rattle.std.specs.List.{slice_get, AllByRecursion}
 use Rattle.campl_plug.specs.declared.plug.Link.{Link}
 use Rattle.campl_plug.specs.Links.{IsPart, IsWithin, Joins, Linked, Joined}
@@ -8,7 +8,7 @@ use Rattle.campl_plug.specs.Tree.{AreReached, IsTree, HasNoCycle}
 use Rattle.campl_plug.specs.Labels.{IsLabelling, relabel_of}
 use Rattle.campl_plug.proofs.Places.{get-there, get-one, take-one-more}
 use Rattle.campl_plug.proofs.Paths.{linked-at, at-linked, within-at, joined-one, joined-turned, joined-into, joined-labels}
-use Rattle.campl_plug.proofs.Counts.{apart-eqb, same-eqb, passing, passing-more, passing-none}
+use Rattle.campl_plug.proofs.Counts.{passing, passing-more, passing-none}
 use Rattle.campl_plug.proofs.Labelled.{is_root, own-labelling, own-roots, same-labelling, new-labelling, new-roots}
 
 -- the links leave c groups of joined parts
@@ -21,7 +21,7 @@ no-groups k = ((λ p. p), own-labelling k (λ p. p) (λ p i. refl), own-roots k 
 -- one more link joins two groups, or parts of one
 one-more : (k : ℕ) (links : List Link) (c : ℕ) (l : Link) → IsWithin k l → Groups k links c
     → (Joined links l.a l.b × Groups k (links ++ l ∷ []) c) ⊎ ((d : ℕ) × (c ≡ suc d) × Groups k (links ++ l ∷ []) d)
-one-more k links c l w (f, lab, count) = elim (same-eqb (f l.a) (f l.b)) [
+one-more k links c l w (f, lab, count) = elim (cases_eq (f l.a) (f l.b)) [
   | inl e ↦ inl (lab.joined l.a l.b w.a_part w.b_part e, (f, same-labelling k links f lab l w e, count))
   | inr e ↦
       let g : ℕ → ℕ = λ p. relabel_of (f l.a) (f l.b) (f p) in
@@ -59,7 +59,7 @@ one-group k links c some reached (f, lab, count) =
     let first : IsPart k 1 = record { low = omega arith; high = some } in
     let more : passing (is_root f) k ≡ suc (passing (λ p. false) k) = passing-more (λ p. false) (is_root f) k (f 1) (lab.inside 1 first) refl
     (eq-eqb (f (f 1)) (f 1) (lab.own 1 first))
-    (λ p i ne. sym (apart-eqb (f p) p (λ h. ne (sym h ∙ sym (joined-labels links f lab.linked 1 p (reached p i)))))) in
+    (λ p i ne. sym (ne_eqb (f p) p (λ h. ne (sym h ∙ sym (joined-labels links f lab.linked 1 p (reached p i)))))) in
     let none : passing (λ p. false) k ≡ 0 = passing-none k in
     omega (arith, more, none, count)
 
@@ -133,7 +133,7 @@ tree-has-no-cycle k links w some tree i (l, at, joined) =
     around : (p q : ℕ) → Linked links p q → Joined rest p q
     around p q h =
         let (e, m, ate, j) = at-linked links p q h in
-        elim (same-eqb e i) [
+        elim (cases_eq e i) [
           | inl s ↦ through p q (subst (λ z. Joins z p q) (get-one links i m l (subst (λ z. slice_get links z ≡ Some m) s ate) at) j)
           | inr s ↦ joined-one rest p q (linked-without links i e m p q ate s j)
         ]

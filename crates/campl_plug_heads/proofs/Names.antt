@@ -1,10 +1,10 @@
 -- The names of headers in lists, sets and maps.
-use Rattle.std.proofs.Common.{◌≡◌, ◌∙◌, refl, ap, ◌⊎◌, inl, inr, ℕ, Bool, true, false, ◌||◌, if◌then◌else◌, List, [], ◌∷◌, ◌++◌}
+use Rattle.std.proofs.Common.{◌≡◌, ◌∙◌, refl, ap, ◌⊎◌, inl, inr, ℕ, Bool, true, false, ◌||◌, if◌then◌else◌, List, [], ◌∷◌, ◌++◌, sym}
 use Rattle.campl_tree.specs.declared.place.Ident.{Ident}
 use Rattle.campl_tree.proofs.Views.{view_part-out}
 use Rattle.campl_types.specs.Names.{Name, same_name, is_among}
 use Rattle.campl_types.specs.World.{names_of}
-use Rattle.campl_types.proofs.Names.{split-names, same-itself, or-assoc}
+use Rattle.campl_types.proofs.Names.{split-names, same-itself}
 use Rattle.campl_names.specs.NameSet.{HaveSame, with_name}
 use Rattle.campl_names.specs.Scope.{with_names}
 use Rattle.campl_names.proofs.Declared.{among-behind}
@@ -12,12 +12,7 @@ use Rattle.campl_names.proofs.Scopes.{with-append}
 use Rattle.indexmap.specs.IndexMap.{insert_entry}
 use Rattle.campl_names.proofs.Sets.{lookup-found, some-among, entry-behind}
 use Rattle.campl_plug_heads.specs.Heads.{Numbered, names_in, marked}
-
-or-turn : (a b c : Bool) → (a || (b || c)) ≡ (b || (a || c))
-or-turn true true c = refl
-or-turn true false c = refl
-or-turn false true c = refl
-or-turn false false c = refl
+use mathlib.Core.Bool.{or-false, or_assoc, or_comm}
 
 among-with : (x y : Name) (vs : List Name) → is_among x (with_name y vs) ≡ (same_name x y || is_among x vs)
 among-with x y vs = go (is_among y vs) refl
@@ -34,8 +29,8 @@ among-with x y vs = go (is_among y vs) refl
 pub among-names : (x : Name) (vs us : List Name) → is_among x (with_names vs us) ≡ (is_among x us || is_among x vs)
 among-names x vs [] = refl
 among-names x vs (y ∷ us) =
-    among-names x (with_name y vs) us ∙ ap (λ z. is_among x us || z) (among-with x y vs) ∙ or-turn (is_among x us) (same_name x y) (is_among x vs)
-    ∙ or-assoc (same_name x y) (is_among x us) (is_among x vs)
+    among-names x (with_name y vs) us ∙ ap (λ z. is_among x us || z) (among-with x y vs) ∙ sym (or_assoc (is_among x us) (same_name x y) (is_among x vs))
+    ∙ ap (λ z. z || is_among x vs) (or_comm (is_among x us) (same_name x y))
 
 pub names-marked : (n : ℕ) (xs : List Ident) → names_in (marked n xs) ≡ names_of xs
 names-marked n [] = refl
@@ -47,11 +42,7 @@ names-append (e ∷ es) fs = ap (λ r. e.0 ∷ r) (names-append es fs)
 
 -- a set of names has those names
 pub same-set : (us : List Name) → HaveSame (with_names [] us) us
-same-set us x = among-names x [] us ∙ or-nothing (is_among x us)
-  where
-    or-nothing : (b : Bool) → (b || false) ≡ b
-    or-nothing true = refl
-    or-nothing false = refl
+same-set us x = among-names x [] us ∙ or-false (is_among x us)
 
 pub put-behind : (x y : Name) (n : ℕ) (es after : Numbered) → y ≡ x → is_among x (names_in es) ≡ false → after ≡ insert_entry same_name es y n → after ≡ es ++ (x, n) ∷ []
 put-behind x y n es after i j k = k ∙ ap (λ z. insert_entry same_name es z n) i ∙ entry-behind x n es (some-among x es ∙ j)

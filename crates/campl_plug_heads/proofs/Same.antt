@@ -20,12 +20,7 @@ use Rattle.campl_linear.specs.Channels.{new_name}
 use Rattle.campl_linear.specs.Plugs.{stands_once, links_are_new, may_stand, names_stand, headers_stand}
 use Rattle.campl_plug_heads.specs.Heads.{links_named, header_stands}
 use Rattle.campl_plug_heads.proofs.Names.{same-set}
-
-or-turned : (a b : Bool) → (a || b) ≡ (b || a)
-or-turned true true = refl
-or-turned true false = refl
-or-turned false true = refl
-or-turned false false = refl
+use mathlib.Core.Bool.{or_comm}
 
 pub same-first : (x : Name) (a b : List Name) → HaveSame a b → HaveSame (x ∷ a) (x ∷ b)
 same-first x a b h y = ap (λ z. same_name y x || z) (h y)
@@ -37,7 +32,7 @@ pub same-behind : (a b c : List Name) → HaveSame b c → HaveSame (a ++ b) (a 
 same-behind a b c h y = among-append y a b ∙ ap (λ z. is_among y a || z) (h y) ∙ sym (among-append y a c)
 
 pub same-turned : (a b : List Name) → HaveSame (a ++ b) (b ++ a)
-same-turned a b y = among-append y a b ∙ or-turned (is_among y a) (is_among y b) ∙ sym (among-append y b a)
+same-turned a b y = among-append y a b ∙ or_comm (is_among y a) (is_among y b) ∙ sym (among-append y b a)
 
 -- judging in turn
 pub regroup : {A B C : Type 0} (first : Judged LinFault A) (next : Judged LinFault B) (last : Judged LinFault C)

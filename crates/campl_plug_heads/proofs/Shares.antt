@@ -16,13 +16,13 @@ use Rattle.campl_types.proofs.Truth.{and-first, and-second, not-true, or-first, 
 use Rattle.campl_names.specs.NameSet.{HaveSame}
 use Rattle.campl_names.specs.Scope.{with_names}
 use Rattle.campl_seqcheck.specs.Judged.{fine, Is}
+use Rattle.campl_seqcheck.proofs.Answered.{drop-at}
 use Rattle.campl_linear.specs.Holding.{Holding, those}
 use Rattle.campl_linear.specs.Plugs.{links_are_new, is_in, ends_of, share_of}
 use Rattle.campl_linear.proofs.Headers.{links-new}
 use Rattle.campl_linear.proofs.Lists.{held-those, found-append}
 use Rattle.campl_plug_heads.specs.Heads.{held_end, side_in, end_in, ends_in, LinksStand}
 use Rattle.campl_plug_heads.proofs.Names.{same-set}
-use Rattle.campl_plug_heads.proofs.Turns.{drop-at}
 
 -- Links that are new
 

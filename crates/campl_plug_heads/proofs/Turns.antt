@@ -1,6 +1,6 @@
 -- What is judged from where a loop stands.
 use Rattle.std.proofs.Common.{◌≡◌, ◌∙◌, refl, sym, ap, subst, ℕ, ◌+◌, ◌<◌, ◌≤◌, Bool, true, false, ◌||◌, List, [], ◌∷◌, ◌++◌, append_assoc, append-nil, map, drop, length, get_or}
-use Rattle.std.proofs.lemmas.List.{drop_more, drop_all}
+use Rattle.std.proofs.lemmas.List.{drop_all}
 use Rattle.campl_tree.specs.declared.place.Ident.{Ident}
 use Rattle.campl_tree.specs.declared.process.Link as code
 use Rattle.campl_tree.specs.declared.process.Part.{Part}
@@ -16,6 +16,7 @@ use Rattle.campl_names.specs.NameSet.{HaveSame, with_name}
 use Rattle.campl_names.specs.Scope.{with_names}
 use Rattle.campl_names.proofs.Scopes.{with-append}
 use Rattle.campl_seqcheck.specs.Judged.{Fine, fine, Judged, Is, and_then}
+use Rattle.campl_seqcheck.proofs.Answered.{drop-at}
 use Rattle.campl_linear.specs.Faults as plain
 use Rattle.campl_linear.specs.Holding.{Holding}
 use Rattle.campl_linear.specs.Channels.{new_name}
@@ -36,9 +37,6 @@ went here whole first next y i step inv = sym (ap (λ h. and_then h (λ _. next)
 pub halted : {B C : Type 0} (here whole : Judged plain.LinFault B) (first : Judged plain.LinFault C) (next : Judged plain.LinFault B) (fault : LinFault)
     → Refused first fault → here ≡ and_then first (λ _. next) → here ≡ whole → Refused whole fault
 halted here whole first next fault a step inv = subst (λ j. Refused j fault) (sym step ∙ inv) (stopped first (λ _. next) fault a)
-
-pub drop-at : {A : Type 0} (xs : List A) (i : ℕ) (x : A) → i < length xs → x ≡ get_or xs i x → drop i xs ≡ x ∷ drop (i + 1) xs
-drop-at xs i x l is = drop_more xs i x l ∙ ap (λ y. y ∷ drop (i + 1) xs) (sym is)
 
 -- Links
 

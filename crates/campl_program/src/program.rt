@@ -1,7 +1,8 @@
 //! Code that can be run.
-ghost use Rattle.std.specs.Prelude.{◌≡◌, ◌<◌, ◌+◌, ◌^◌, true, IfSome, MatchResult, option_map, slice_get};
+ghost use Rattle.std.specs.Prelude.{◌≡◌, ◌<◌, ◌+◌, ◌^◌, true, IfOk, IfSome, MatchResult, option_map, slice_get};
 ghost use Rattle.std.specs.Option.{option_copied};
 ghost use Rattle.campl_code.specs.Frames.{frame_size};
+ghost use Rattle.campl_code.specs.Forward.{IsForward};
 ghost use Rattle.campl_code.specs.Instructions.{blocks};
 ghost use Rattle.campl_code.specs.Machine.{code_at};
 ghost use Rattle.campl_instructions.specs.View.{view_instr, view_block, view_code};
@@ -12,7 +13,7 @@ use crate::forward::are_onward;
 use crate::sizes::frame_sizes;
 use campl_instructions::{Block, Instr, RawCode};
 use sqlite_items::{Items, at};
-use std::alloc::Global;
+use std::alloc::{AllocError, Global};
 
 /// Code each jump of which leads onward, with the sizes of its functions' frames.
 #[derive(Drop)]
@@ -44,6 +45,17 @@ impl Program {
             return Err(ProgramFault::LeadsBack);
         }
         Ok(Program { raw, sizes })
+    }
+
+    /// The same of code that is known to jump onward alone. An error means that memory is out, and drops the code.
+    pub fn assemble(alloc: Global, raw: RawCode) -> Result<Program, AllocError>
+        requires { IsForward (view_code raw) }
+        ensures { IfOk result (λ program. program.raw ≡ raw) }
+    {
+        match frame_sizes(alloc, &raw) {
+            Err(error) => Err(error),
+            Ok(sizes) => Ok(Program { raw, sizes }),
+        }
     }
 
     /// The blocks and decisions.

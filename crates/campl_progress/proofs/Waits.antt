@@ -12,8 +12,8 @@ use Rattle.campl_types.specs.Substitution.{list_of}
 use Rattle.campl_types.specs.World.{World, TypeEntry, DataType, ProtocolType, CoprotocolType, type_named}
 use Rattle.campl_types.specs.Polarity.{Deed, Puts, Gets, Forks, Splits, Picks, Offers, Ends, IsLinked, Choices, deed, of_named, protocol_choices, coprotocol_choices}
 use Rattle.campl_types.specs.Held.{Channel, On}
-use Rattle.campl_types.specs.Views.{View, As, Nothing, turned, deed_of, side_of}
-use Rattle.campl_tree.specs.Side.{opposite}
+use Rattle.campl_types.specs.Views.{View, turned, deed_of, side_of}
+use Rattle.campl_types.proofs.Turned.{answered, deed-of-turned}
 use Rattle.campl_meaning.specs.States.{Message}
 use Rattle.campl_meaning.specs.Views.{view_of, view_in, taken_at, TakesAll}
 
@@ -30,45 +30,6 @@ IsWaiting IsLinked = ⊥
 
 abbrev pub Waits : World → View → Type 0
 Waits w v = IsWaiting (deed_of w v)
-
--- (`answered` of `campl_types` cannot be unfolded from here)
-abbrev pub answered : Deed → Deed
-answered (Puts t x) = Gets t x
-answered (Gets t x) = Puts t x
-answered (Forks x y) = Splits x y
-answered (Splits x y) = Forks x y
-answered (Picks cs) = Offers cs
-answered (Offers cs) = Picks cs
-answered Ends = Ends
-answered IsLinked = IsLinked
-
-named-turned : (e : Option TypeEntry) (s : Side) (ts : List SeqType) → of_named e (opposite s) ts ≡ answered (of_named e s ts)
-named-turned (Some (ProtocolType d)) Input ts = refl
-named-turned (Some (ProtocolType d)) Output ts = refl
-named-turned (Some (CoprotocolType d)) Input ts = refl
-named-turned (Some (CoprotocolType d)) Output ts = refl
-named-turned (Some (DataType d)) s ts = refl
-named-turned None s ts = refl
-
-pub deed-turned : (w : World) (s : Side) (t : ChanType) → deed w (opposite s) t ≡ answered (deed w s t)
-deed-turned w Output (c.Put t x) = refl
-deed-turned w Input (c.Put t x) = refl
-deed-turned w Output (c.Get t x) = refl
-deed-turned w Input (c.Get t x) = refl
-deed-turned w Output (c.Tensor x y) = refl
-deed-turned w Input (c.Tensor x y) = refl
-deed-turned w Output (c.Par x y) = refl
-deed-turned w Input (c.Par x y) = refl
-deed-turned w Output c.TopBot = refl
-deed-turned w Input c.TopBot = refl
-deed-turned w Output (c.Neg x) = refl
-deed-turned w Input (c.Neg x) = refl
-deed-turned w Output (c.Named at x ts) = named-turned (type_named w x) Output (list_of ts)
-deed-turned w Input (c.Named at x ts) = named-turned (type_named w x) Input (list_of ts)
-
-pub deed-of-turned : (w : World) (v : View) → deed_of w (turned v) ≡ answered (deed_of w v)
-deed-of-turned w (As s t) = deed-turned w s t
-deed-of-turned w Nothing = refl
 
 one-waits : (d : Deed) → IsWaiting d → IsWaiting (answered d) → ⊥
 one-waits (Puts t x) a b = a

@@ -1,11 +1,11 @@
 -- Rows in order, with a set of the names that came before.
-use Rattle.std.proofs.Common.{◌≡◌, ◌∙◌, refl, sym, ap, Bool, true, false, ◌||◌, not, ◌&&◌, if◌then◌else◌, List, [], ◌∷◌, Some, None, slice_get, ℕ, suc, ◌+◌, ◌<◌, ◌≤◌, length, drop, get_or, map}
+use Rattle.std.proofs.Common.{◌≡◌, ◌∙◌, refl, sym, ap, ◌||◌, not, ◌&&◌, if◌then◌else◌, List, [], ◌∷◌, Some, None, slice_get, ℕ, suc, ◌+◌, ◌<◌, ◌≤◌, length, drop, get_or, map}
 use Rattle.std.proofs.lemmas.List.{drop_all}
 use Rattle.campl_tree.specs.declared.place.Place.{Place}
 use Rattle.campl_tree.specs.declared.process.HcaseRow.{HcaseRow}
 use Rattle.campl_tree.specs.declared.process.Branch.{Branch}
 use Rattle.campl_tree.specs.Plain.Process as b
-use Rattle.campl_tree.specs.Plain.Process.{Body, HcaseRows, Branches}
+use Rattle.campl_tree.specs.Plain.Process.{HcaseRows, Branches}
 use Rattle.campl_tree.specs.View.{view_hcase_row, hcase_rows, view_branch, branches}
 use Rattle.campl_tree.proofs.Views.{view_hcase_row-out, view_branch-out}
 use Rattle.campl_types.specs.Names.{Name, same_name, is_among}
@@ -23,6 +23,7 @@ use Rattle.campl_held.specs.Answered.{Refused}
 use Rattle.campl_held.proofs.Told.{refused}
 use Rattle.campl_held.proofs.Turns.{loop-went, loop-stopped}
 use Rattle.campl_rows.specs.Steps.{row_offered, branch_begins}
+use mathlib.Core.Bool.{or-false, or_assoc, or_comm}
 
 in-turn : {A B C : Type 0} (j : Judged LinFault A) (f : A → Judged LinFault B) (g : B → Judged LinFault C) → and_then j (λ x. and_then (f x) g) ≡ and_then (and_then j f) g
 in-turn (Is x) f g = refl
@@ -76,27 +77,18 @@ module _ (x : Name) (u : Used Choices) where
 abbrev pub Together : List Name → HcaseRows → HcaseRows → Type 0
 Together before rest rows = (n : Name) → (is_among n before || is_among n (row_names rest)) ≡ is_among n (row_names rows)
 
-or-turn : (a c d : Bool) → ((a || c) || d) ≡ (c || (a || d))
-or-turn true true d = refl
-or-turn true false d = refl
-or-turn false true d = refl
-or-turn false false d = refl
-
 pub names-went : (rows : List HcaseRow) (i : ℕ) (r : HcaseRow) (before new : List Name) (whole : HcaseRows) → i < length rows → r ≡ get_or rows i r → new ≡ with_name (view_hcase_row r).0.name before
     → Together before (hcase_rows (map view_hcase_row (drop i rows))) whole → Together new (hcase_rows (map view_hcase_row (drop (i + 1) rows))) whole
 names-went rows i r before new whole l is e inv n =
     ap (λ names. is_among n names || is_among n (row_names (hcase_rows (map view_hcase_row (drop (i + 1) rows))))) e
     ∙ ap (λ c. c || is_among n (row_names (hcase_rows (map view_hcase_row (drop (i + 1) rows))))) (among-with n (view_hcase_row r).0.name before)
-    ∙ or-turn (same_name n (view_hcase_row r).0.name) (is_among n before) (is_among n (row_names (hcase_rows (map view_hcase_row (drop (i + 1) rows)))))
+    ∙ ap (λ c. c || is_among n (row_names (hcase_rows (map view_hcase_row (drop (i + 1) rows))))) (or_comm (same_name n (view_hcase_row r).0.name) (is_among n before))
+    ∙ or_assoc (is_among n before) (same_name n (view_hcase_row r).0.name) (is_among n (row_names (hcase_rows (map view_hcase_row (drop (i + 1) rows)))))
     ∙ ap (λ rs. is_among n before || is_among n (row_names (hcase_rows (map view_hcase_row rs)))) (sym (drop-at rows i r l is))
     ∙ inv n
 
 pub names-end : (rows : List HcaseRow) (i : ℕ) (before : List Name) (whole : HcaseRows) → length rows ≤ i → Together before (hcase_rows (map view_hcase_row (drop i rows))) whole → HaveSame before (row_names whole)
-names-end rows i before whole l inv n = or-false (is_among n before) ∙ ap (λ rs. is_among n before || is_among n (row_names (hcase_rows (map view_hcase_row rs)))) (sym (drop_all i rows l)) ∙ inv n
-  where
-    or-false : (c : Bool) → c ≡ (c || false)
-    or-false true = refl
-    or-false false = refl
+names-end rows i before whole l inv n = sym (or-false (is_among n before)) ∙ ap (λ rs. is_among n before || is_among n (row_names (hcase_rows (map view_hcase_row rs)))) (sym (drop_all i rows l)) ∙ inv n
 
 -- `race`
 

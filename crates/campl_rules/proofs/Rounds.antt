@@ -16,6 +16,8 @@ use Rattle.campl_rules.specs.Found.{AreFound, Changed, Covers, Rising, first, ha
 use Rattle.campl_rules.specs.Given.{TakesLater, given_at}
 use Rattle.campl_rules.proofs.Changing.{among-both}
 use Rattle.campl_rules.proofs.Items.{same-items}
+use mathlib.Core.Bool.{or-true}
+use Rattle.campl_types.proofs.Truth.{and-second}
 
 -- The instructions at ascending places hand on what all do, where no other has a new height
 
@@ -122,11 +124,7 @@ old-hands-nothing code p block at (Some x) to (Some (height, false)) e = refl
 contains-among : (fs : List ℕ) (i k : ℕ) → k < length fs → get_or fs k i ≡ i → is_among i fs ≡ true
 contains-among [] i k h e = absurd (omega (arith, h))
 contains-among (f ∷ fs) i zero h e = ap (λ b. b || is_among i fs) (eq-eqb i f (sym e))
-contains-among (f ∷ fs) i (suc k) h e = let lt : k < length fs = omega (arith, h) in ap (λ b. eqb i f || b) (contains-among fs i k lt e) ∙ go (eqb i f)
-  where
-    go : (b : Bool) → b || true ≡ true
-    go true = refl
-    go false = refl
+contains-among (f ∷ fs) i (suc k) h e = let lt : k < length fs = omega (arith, h) in ap (λ b. eqb i f || b) (contains-among fs i k lt e) ∙ or-true (eqb i f)
 
 not-among : (fs : List ℕ) (i : ℕ) (b : Bool) → (b ≡ true → Contains fs i) → is_among i fs ≡ false → b ≡ false
 not-among fs i true h e = let there = h refl in let f : true ≡ false = sym (contains-among fs i there.0 there.1 there.2) ∙ e in absurd cc
@@ -151,15 +149,11 @@ if-some : (b : Bool) (n m : ℕ) → (if b then Some n else None) ≡ Some m →
 if-some true n m e = refl
 if-some false n m e = absurd cc
 
-right-true : (a b : Bool) → a && b ≡ true → b ≡ true
-right-true true b e = e
-right-true false b e = absurd cc
-
 by-way : (code : Code) (p : Bool) (block : List Instr) (at : ℕ) (o : Option Instr) (to m : ℕ) (h : Option (ℕ × Bool)) → handed_there code p block at o to h ≡ Some m → is_among to (ways_at o at) ≡ true
 by-way code p block at None to m h e = absurd cc
 by-way code p block at (Some x) to m None e = absurd cc
 by-way code p block at (Some x) to m (Some (height, true)) e =
-    right-true (is_sound code p block at x && has_operands code x height) (is_among to (ways_from at x))
+    and-second (is_sound code p block at x && has_operands code x height) (is_among to (ways_from at x))
     (if-some (is_sound code p block at x && has_operands code x height && is_among to (ways_from at x)) (height_behind code x height) m e)
 by-way code p block at (Some x) to m (Some (height, false)) e = absurd cc
 
@@ -168,10 +162,6 @@ by-ways code p block heights [] to m e = absurd cc
 by-ways code p block heights (f ∷ fs) to m e =
     among-both (ways_at (slice_get block f) f) (ways_in block fs) to ∙ go (handed_at code p block heights f to) refl (λ k. by-ways code p block heights fs to m k)
   where
-    or-true : (b : Bool) → b || true ≡ true
-    or-true true = refl
-    or-true false = refl
-
     go : (o : Option ℕ) → handed_at code p block heights f to ≡ o → (handed_in code p block heights fs to ≡ Some m → is_among to (ways_in block fs) ≡ true) → is_among to (ways_at (slice_get block f) f) || is_among to (ways_in block fs) ≡ true
     go (Some n) s rest = ap (λ b. b || is_among to (ways_in block fs)) (by-way code p block f (slice_get block f) to n (height_at heights f) s)
     go None s rest =

@@ -35,6 +35,14 @@ impl Code {
         Code { raw }
     }
 
+    /// The blocks and decisions, for a program of the evaluator.
+    pub fn into_raw(self) -> RawCode
+        ensures same { result ≡ self.raw }
+        ensures valid { rule.first_fault (view_code result) ≡ None }
+    {
+        self.raw
+    }
+
     /// The blocks and decisions.
     pub fn raw(&self) -> &RawCode
         ensures same { result.now ≡ self.now.raw }

@@ -5,3 +5,5 @@ pub mod Output
 pub mod Escapes
 pub mod Unescaping
 pub mod Reading
+pub mod Migration
+pub mod Writing

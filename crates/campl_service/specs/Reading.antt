@@ -4,9 +4,11 @@ use Rattle.std.specs.Cmp.Lexicographic.{pointwise}
 use Rattle.std.specs.List.{fold, prefix_len}
 use Rattle.std.specs.Str.Lines.{strip_carriage_return}
 use Rattle.campl_tree.specs.declared.service.ServiceName.{ServiceName}
-use Rattle.campl_service.specs.declared.limits.TheConstants.{LINES_MAX, LINE_MAX, VERSION_2_LINES_MAX, VERSION_2_LINE_MAX, TEXT_MAX}
+use Rattle.campl_service.specs.declared.limits.TheConstants.{LINES_MAX, LINE_MAX, VERSION_2_LINES_MAX, VERSION_2_LINE_MAX, TEXT_MAX, NAME_MAX}
 use Rattle.campl_service.specs.declared.entry.Version.{Version}
 use Rattle.campl_service.specs.declared.entry.Version.TheVariants.{One, Two}
+use Rattle.campl_service.specs.declared.entry.Known.{Known}
+use Rattle.campl_service.specs.declared.entry.Known.TheVariants.{Heading, AnyName}
 use Rattle.campl_service.specs.declared.entry.Entry.{Entry}
 use Rattle.campl_service.specs.declared.fault.ScriptFault.{ScriptFault}
 use Rattle.campl_service.specs.declared.fault.ScriptFault.TheVariants.{NoColon, UnknownChannel, LineTooLong, TooManyLines, BadEscape, OutOfMemory}
@@ -48,6 +50,20 @@ place_from n (s ∷ ss) name = if same_name s.name name then Some n else place_f
 
 abbrev pub place_of : List ServiceName → List ℕ → Option ℕ
 place_of = place_from 0
+
+-- where every name that a channel can have is known
+abbrev pub place_of_any : List ℕ → Option ℕ
+place_of_any name = if nat_le (length name) NAME_MAX then Some 0 else None
+
+-- the place of a name that is known
+abbrev pub place_in : Known → List ℕ → Option ℕ
+place_in (Heading names) name = place_of names.now name
+place_in AnyName name = place_of_any name
+
+-- how many places there are
+abbrev pub known_places : Known → ℕ
+known_places (Heading names) = length names.now
+known_places AnyName = 1
 
 -- one leading space is dropped
 abbrev pub without_space : List ℕ → List ℕ
@@ -139,6 +155,6 @@ Answers wanted result = MatchResult result (λ x. wanted ≡ Ok x) (λ fault. fa
 abbrev pub Leaves : {A : Type 0} → Result A ScriptFault → Result (Unit {0}) ScriptFault → (after : A) → Type 0
 Leaves wanted result after = MatchResult result (λ _. wanted ≡ Ok after) (λ fault. fault ≢ OutOfMemory → wanted ≡ Err fault)
 
--- a channel of these names, if a line says something
-abbrev pub IsOfHeading : List ServiceName → Result (Option Entry) ScriptFault → Type 0
-IsOfHeading names result = IfOk result (λ said. IfSome said (λ entry. entry.channel < length names))
+-- a place that is known, if a line says something
+abbrev pub IsKnown : Known → Result (Option Entry) ScriptFault → Type 0
+IsKnown known result = IfOk result (λ said. IfSome said (λ entry. entry.channel < known_places known))

@@ -64,6 +64,11 @@ abbrev pub sent : Serving → Lines → Option Action
 sent s [] = None
 sent s (line ∷ lines) = Some (in_phase p.Pick (noting (Sent line) (with_script lines s)), Some (m.Word (text_of line)))
 
+-- the value of the next line
+abbrev pub next_line : Lines → Option Tree
+next_line [] = None
+next_line (line ∷ lines) = Some (text_of line)
+
 abbrev pub action_in : Phase → Serving → Option Message → Option Action
 action_in p.Pick s (Some (m.Pick n)) = asked s (request s.kind n)
 action_in p.Text s (Some (m.Word text)) = took s (chars_of text)

@@ -1,11 +1,13 @@
 //! What a line of a script says.
 ghost use Rattle.std.specs.Prelude.{◌≡◌, ◌<◌, ◌≤◌, Some, IfOk, IfSome, OnOk, length, option_map};
-ghost use Rattle.campl_service.specs.Reading.{Answers, IsOfHeading, place_of, judged_line, judged_content, judged_channel, judged_text, most_lines, most_characters, without_space, text_meant};
+ghost use Rattle.campl_service.specs.Reading.{Answers, IsKnown, place_of, place_of_any, place_in, known_places, judged_line, judged_content, judged_channel, judged_text, most_lines, most_characters, without_space, text_meant};
 
 use crate::characters::len_before;
 use crate::escapes::unescape;
 use crate::fault::ScriptFault;
-use crate::limits::{LINE_MAX, LINES_MAX, TEXT_MAX, VERSION_2_LINE_MAX, VERSION_2_LINES_MAX};
+use crate::limits::{
+    LINE_MAX, LINES_MAX, NAME_MAX, TEXT_MAX, VERSION_2_LINE_MAX, VERSION_2_LINES_MAX,
+};
 use crate::text::TextValue;
 use campl_tree::ServiceName;
 use std::alloc::{AllocError, Global};
@@ -37,7 +39,16 @@ impl Version {
     }
 }
 
-// A text for a channel, by its place in the heading from 0.
+// Which names are known, each by its place.
+#[derive(Clone, Copy)]
+pub enum Known<'a> {
+    // The names of a heading, counted from 0.
+    Heading(&'a [ServiceName]),
+    // Every name that a channel can have, at the place 0.
+    AnyName,
+}
+
+// A text for a channel, by the place of its name.
 #[derive(Drop)]
 pub struct Entry {
     pub channel: usize,
@@ -48,12 +59,12 @@ pub struct Entry {
 pub fn read_line(
     alloc: Global,
     version: Version,
-    names: &[ServiceName],
+    known: Known<'_>,
     number: u32,
     line: &[char],
 ) -> Result<Option<Entry>, ScriptFault>
-    ensures answer { Answers (judged_line version (place_of names.now) number line.now) result }
-    ensures channel { IsOfHeading names.now result }
+    ensures answer { Answers (judged_line version (place_in known.entry) number line.now) result }
+    ensures channel { IsKnown known.entry result }
     ensures few { OnOk result (number ≤ most_lines version) }
 {
     if number > version.most_lines() {
@@ -65,27 +76,49 @@ pub fn read_line(
     if line.is_empty() {
         return Ok(None);
     }
-    read_content(alloc, version, names, number, line)
+    read_content(alloc, version, known, number, line)
 }
 
 // A line that isn't empty.
 fn read_content(
     alloc: Global,
     version: Version,
-    names: &[ServiceName],
+    known: Known<'_>,
     number: u32,
     line: &[char],
 ) -> Result<Option<Entry>, ScriptFault>
-    ensures answer { Answers (judged_content version (place_of names.now) number line.now) result }
-    ensures channel { IsOfHeading names.now result }
+    ensures answer { Answers (judged_content version (place_in known.entry) number line.now) result }
+    ensures channel { IsKnown known.entry result }
 {
     let colon = len_before(':', line);
     if colon == line.len() {
         return Err(ScriptFault::NoColon { line: number });
     }
-    match place_of(names, &line[..colon]) {
+    match place_in(known, &line[..colon]) {
         Some(channel) => read_text(alloc, version, number, channel, &line[colon + 1..]),
         None => Err(ScriptFault::UnknownChannel { line: number }),
+    }
+}
+
+// The place of a name, if it is known.
+fn place_in(known: Known<'_>, name: &[char]) -> Option<usize>
+    ensures value { result ≡ place_in known.entry name.now }
+    ensures within { IfSome result (λ place. place < known_places known.entry) }
+{
+    match known {
+        Known::Heading(names) => place_of(names, name),
+        Known::AnyName => place_of_any(name),
+    }
+}
+
+fn place_of_any(name: &[char]) -> Option<usize>
+    ensures value { result ≡ place_of_any name.now }
+    ensures within { IfSome result (λ place. place < 1) }
+{
+    if name.len() <= NAME_MAX {
+        Some(0)
+    } else {
+        None
     }
 }
 

@@ -1,4 +1,4 @@
-//! Why a script is refused.
+//! Why a script is refused, and why it isn't migrated.
 use std::alloc::AllocError;
 
 /// The first fault of a script. Lines count from 1.
@@ -26,5 +26,27 @@ impl From<AllocError> for ScriptFault {
 
     fn from(_error: AllocError) -> ScriptFault {
         ScriptFault::OutOfMemory
+    }
+}
+
+/// Why a script isn't migrated.
+#[derive(Clone, Copy, Debug, PartialEq, Eq)]
+pub enum MigrateFault {
+    /// The first fault of the script itself, which is never want of memory.
+    Script(ScriptFault),
+    /// The migrated script has more than `SCRIPT_BYTES_MAX` bytes.
+    TooLong,
+    /// Memory ran out.
+    OutOfMemory,
+}
+
+impl From<AllocError> for MigrateFault {
+    ghost use Rattle.std.specs.Prelude.{◌≡◌};
+    ghost use Rattle.campl_service.specs.declared.fault.MigrateFault.TheVariants.{OutOfMemory};
+
+    ghost from_gives = { λ _ fault. fault ≡ OutOfMemory };
+
+    fn from(_error: AllocError) -> MigrateFault {
+        MigrateFault::OutOfMemory
     }
 }

@@ -4,7 +4,7 @@
 //! writes each text, each line and its end down in a transcript, whose lines are printed with escapes (`transcript`, `record`).
 //! What it has still to send is a list of lines (`script`), each of which is a value already (`text`). Scripts of both versions are read out of a text
 //! (`reading`) line by line (`entry`), with their escapes (`escapes`, `characters`), limits (`limits`) and faults (`fault`).
-//! What holds of every action stands in `laws`.
+//! A script is written anew in version 2 by `migration`. What holds of every action stands in `laws`.
 //!
 //! ```text
 //! let mut scripts = read_script(alloc, &text, &names)?; // or Scripts::none(alloc, 1)?
@@ -21,6 +21,7 @@ mod escapes;
 mod fault;
 mod laws;
 mod limits;
+mod migration;
 mod phase;
 mod reading;
 mod record;
@@ -29,9 +30,13 @@ mod service;
 mod text;
 mod transcript;
 
-pub use fault::ScriptFault;
+pub use fault::{MigrateFault, ScriptFault};
 pub use laws::law_actions;
-pub use limits::{LINE_MAX, LINES_MAX, TEXT_MAX, VERSION_2_LINE_MAX, VERSION_2_LINES_MAX};
+pub use limits::{
+    LINE_MAX, LINES_MAX, NAME_MAX, SCRIPT_BYTES_MAX, TEXT_MAX, VERSION_2_LINE_MAX,
+    VERSION_2_LINES_MAX,
+};
+pub use migration::migrate_script;
 pub use phase::{ServiceKind, Want};
 pub use reading::read_script;
 pub use script::{Script, Scripts};

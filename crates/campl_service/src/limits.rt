@@ -14,3 +14,9 @@ pub const VERSION_2_LINE_MAX: usize = 8_192;
 
 /// How many characters the text of a line has at most, after its escapes.
 pub const TEXT_MAX: usize = 1_024;
+
+/// How many characters the name of a channel has at most.
+pub const NAME_MAX: usize = 64;
+
+/// How many bytes a script has at most.
+pub const SCRIPT_BYTES_MAX: u64 = 16_777_216;

@@ -3,7 +3,7 @@ ghost use Rattle.std.specs.Prelude.{◌≡◌, ◌≤◌, IfOk, OnOk, IfSome, �
 ghost use Rattle.campl_service.specs.Reading.{Answers, Leaves, place_of, is_version_line, judged, judged_lines, lines_of, scripts_of, with_line, with_lines};
 
 use crate::characters::{split_line, strip_return};
-use crate::entry::{Entry, Version, read_line};
+use crate::entry::{Entry, Known, Version, read_line};
 use crate::fault::ScriptFault;
 use crate::script::Scripts;
 use campl_text::Text;
@@ -32,7 +32,8 @@ pub fn read_script(
     }
 }
 
-fn characters_of(alloc: Global, text: &str) -> Result<Vec<char>, AllocError>
+// The characters of a text.
+pub fn characters_of(alloc: Global, text: &str) -> Result<Vec<char>, AllocError>
     ensures { IfOk result (λ characters. characters.items ≡ chars text.now) }
 {
     text.chars().collect(alloc)
@@ -59,7 +60,7 @@ fn read_all(
     }
 }
 
-fn is_version_line(line: &[char]) -> bool
+pub fn is_version_line(line: &[char]) -> bool
     ensures { result ≡ is_version_line line.now }
 {
     line == VERSION_LINE.as_slice()
@@ -82,7 +83,13 @@ fn read_lines(
     let mut rest = characters;
     'lines: while !rest.is_empty() {
         let (piece, behind) = split_line(rest);
-        let said = read_line(alloc, version, names, number, strip_return(piece))?;
+        let said = read_line(
+            alloc,
+            version,
+            Known::Heading(names),
+            number,
+            strip_return(piece),
+        )?;
         put(scripts, said)?;
         number += 1;
         rest = behind;

@@ -2,7 +2,7 @@
 ghost use Rattle.std.specs.Prelude.{◌≡◌, ℕ, [], ◌∷◌, ◌++◌, ◌+◌, ◌^◌, ◌<◌, ◌≤◌, Some, None, false, IsSome, IfOk, IfErr, OnOk, OnErr, IsOk, length, map};
 ghost use Rattle.campl_value.specs.Text.{chars_of};
 ghost use Rattle.campl_value.specs.declared.message.Message.TheVariants.{Word};
-ghost use Rattle.campl_service.specs.Services.{Suits, want, want_in, action, asked, took, sent, request, IsNext, lacks_word};
+ghost use Rattle.campl_service.specs.Services.{Suits, want, want_in, action, asked, took, sent, request, IsNext, lacks_word, next_line};
 ghost use Rattle.campl_service.specs.Transcripts.{record_of};
 
 use crate::phase::{Phase, Request, ServiceKind, Want, request_of};
@@ -80,6 +80,20 @@ impl Service {
         match self.script.first() {
             Some(_) => Want::Send,
             None => Want::Spent,
+        }
+    }
+
+    /// A copy of the line that it sends next, and None where its script is spent. It changes nothing. An error means that memory is
+    /// out.
+    pub fn next_line(&self) -> Result<Option<Value>, AllocError>
+        ensures { IfOk result (λ line. line ≡ next_line self.now.serving.script) }
+    {
+        match self.script.first() {
+            None => Ok(None),
+            Some(line) => match line.value() {
+                Ok(value) => Ok(Some(value)),
+                Err(error) => Err(error),
+            },
         }
     }
 

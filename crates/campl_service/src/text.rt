@@ -72,6 +72,14 @@ impl TextValue {
         push_shown(bytes, spelled.as_str())
     }
 
+    /// The text as it is printed. An error means that memory is out.
+    pub fn shown(&self, alloc: Global) -> Result<String, AllocError>
+        ensures { IfOk result (λ shown. string_bytes shown ≡ shown_bytes self.now) }
+    {
+        let spelled = self.spelled(alloc)?;
+        shown(alloc, spelled.as_str())
+    }
+
     fn spelled(&self, alloc: Global) -> Result<String, AllocError>
         ensures { IfOk result (λ spelled. chars (string_bytes spelled) ≡ self.now) }
     {
@@ -82,7 +90,20 @@ impl TextValue {
     }
 }
 
-fn collect(alloc: Global, characters: &[char]) -> Result<String, AllocError>
+#[tactic(auto, using(crate::proofs::Printed::shown_is_utf8))]
+fn shown(alloc: Global, text: &str) -> Result<String, AllocError>
+    ensures { IfOk result (λ shown. string_bytes shown ≡ shown_bytes (chars text.now)) }
+{
+    let mut bytes = Vec::new(alloc);
+    push_shown(&mut bytes, text)?;
+    match String::from_utf8(bytes) {
+        Ok(shown) => Ok(shown),
+        Err(_) => unreachable!(),
+    }
+}
+
+// The text of these characters.
+pub fn collect(alloc: Global, characters: &[char]) -> Result<String, AllocError>
     ensures { IfOk result (λ spelled. chars (string_bytes spelled) ≡ characters.now) }
 {
     let mut spelled = String::with_capacity(alloc, characters.len())?;

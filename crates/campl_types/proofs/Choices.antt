@@ -67,7 +67,7 @@ found-at (c ∷ cs) k y i = go (same_name k c.0) refl i (found-at cs k y)
     go true e j later = let q : c.1 ≡ y = cc j in (0, c.0, (λ k. Some (c.0, q k)), e)
     go false e j later = let (n, x, at, same) = later j in (suc n, x, at, same)
 
-get-mapped : {A B : Type 0} (f : A → B) (ks : List A) (n : ℕ) (z : B) → slice_get (map f ks) n ≡ Some z → (k : A) × (slice_get ks n ≡ Some k) × (f k ≡ z)
+pub get-mapped : {A B : Type 0} (f : A → B) (ks : List A) (n : ℕ) (z : B) → slice_get (map f ks) n ≡ Some z → (k : A) × (slice_get ks n ≡ Some k) × (f k ≡ z)
 get-mapped f [] n z i = absurd (cc i)
 get-mapped f (k ∷ ks) zero z i = (k, refl, cc i)
 get-mapped f (k ∷ ks) (suc n) z i = get-mapped f ks n z i

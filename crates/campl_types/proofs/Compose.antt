@@ -10,6 +10,21 @@ use Rattle.campl_types.specs.World.{variables_of_list}
 use Rattle.campl_types.proofs.Truth.{or-first}
 use Rattle.campl_types.proofs.Among.{within-left, within-right}
 
+-- with nothing filled a type stays as it is
+mutual
+  pub filled-nothing : (t : SeqType) → filled [] t ≡ t
+  filled-nothing s.Int = refl
+  filled-nothing s.Char = refl
+  filled-nothing s.Bool = refl
+  filled-nothing (s.List t) = ap s.List (filled-nothing t)
+  filled-nothing (s.Pair t u) = let p = filled-nothing t in let q = filled-nothing u in λ k. s.Pair (p k) (q k)
+  filled-nothing (s.Named at x ts) = ap (s.Named at x) (all-filled-nothing ts)
+  filled-nothing (Variable at x) = refl
+
+  all-filled-nothing : (ts : SeqTypes) → all_filled [] ts ≡ ts
+  all-filled-nothing no_types = refl
+  all-filled-nothing (type_then t ts) = let p = filled-nothing t in let q = all-filled-nothing ts in λ k. type_then (p k) (q k)
+
 pub filled-list : (f : Filling) (ts : SeqTypes) → list_of (all_filled f ts) ≡ map (filled f) (list_of ts)
 filled-list f no_types = refl
 filled-list f (type_then t ts) = ap (λ us. filled f t ∷ us) (filled-list f ts)

@@ -7,7 +7,7 @@ use Rattle.campl_tree.specs.Plain.Decl.{DataDecl, DataConstructor}
 use Rattle.campl_value.specs.Tree.{Tree, Trees, Truth, Nil, Cell, Pair, Built, none, more, list_of}
 use Rattle.campl_types.specs.Names.{Name, same_name}
 use Rattle.campl_types.proofs.Names.{same-is}
-use Rattle.campl_types.proofs.Truth.{and-first, and-second, or-first, or-second, or-split}
+use Rattle.campl_types.proofs.Truth.{and-first, and-second, or-first, or-second, or-split, and-both}
 use Rattle.campl_types.specs.Substitution as types
 use Rattle.campl_types.specs.Forms as f
 use Rattle.campl_types.specs.Forms.{Form, Forms, anythings}
@@ -47,10 +47,7 @@ hits-parts w (f.more p ps) none = refl
 
 -- Truth values
 
-and-intro : {a b : Bool} → a ≡ true → b ≡ true → (a && b) ≡ true
-and-intro i j = rw i j
-
-truth-same : (b : Bool) → same_truth b b ≡ true
+pub truth-same : (b : Bool) → same_truth b b ≡ true
 truth-same true = refl
 truth-same false = refl
 
@@ -133,7 +130,7 @@ front : (w : World) (qs ps : Row) (ts : List SeqType) (hs vs : List Tree) → As
 front w [] ps [] [] vs a b j = (refl, j)
 front w (q ∷ qs) ps (t ∷ ts) (h ∷ hs) vs a (i, b) j =
     let k = front w qs ps ts hs vs a b (and-second (is_some (matched w q h)) (hits w (qs ++ ps) (hs ++ vs)) j) in
-    (and-intro (and-first (is_some (matched w q h)) (hits w (qs ++ ps) (hs ++ vs)) j) k.0, k.1)
+    (and-both _ _ (and-first (is_some (matched w q h)) (hits w (qs ++ ps) (hs ++ vs)) j) k.0, k.1)
 front w [] ps (t ∷ ts) hs vs a b j = absurd a
 front w (q ∷ qs) ps [] hs vs a b j = absurd a
 front w [] ps [] (h ∷ hs) vs a b j = absurd b
@@ -158,12 +155,12 @@ unopened w (IsCons t) (f.Cons p q) (Cell x y) hs qs a b i j =
     let k : qs ≡ p ∷ q ∷ [] = cc i in
     let m : hits w (p ∷ q ∷ []) (x ∷ y ∷ []) ≡ true = rw (k, a) at j in
     some-both (matched w p x) (matched w q y)
-    ∙ and-intro (and-first (is_some (matched w p x)) _ m) (and-first (is_some (matched w q y)) _ (and-second (is_some (matched w p x)) _ m))
+    ∙ and-both _ _ (and-first (is_some (matched w p x)) _ m) (and-first (is_some (matched w q y)) _ (and-second (is_some (matched w p x)) _ m))
 unopened w (IsPair t u) (f.Pair p q) (Pair x y) hs qs a b i j =
     let k : qs ≡ p ∷ q ∷ [] = cc i in
     let m : hits w (p ∷ q ∷ []) (x ∷ y ∷ []) ≡ true = rw (k, a) at j in
     some-both (matched w p x) (matched w q y)
-    ∙ and-intro (and-first (is_some (matched w p x)) _ m) (and-first (is_some (matched w q y)) _ (and-second (is_some (matched w p x)) _ m))
+    ∙ and-both _ _ (and-first (is_some (matched w p x)) _ m) (and-first (is_some (matched w q y)) _ (and-second (is_some (matched w p x)) _ m))
 unopened w (IsBuilt k ts) (f.Built x ps) (Built n vs) hs qs (a, e) b i j = built-matched w k x ts ps n vs hs qs a e i j
 unopened w (IsNumber n) p v hs qs a b i j = absurd a
 unopened w (IsCharacter n) p v hs qs a b i j = absurd a
@@ -177,7 +174,7 @@ unopened w h p v hs qs a b i j = absurd (cc i)
 opened-hits : (w : World) (h : Head) (p : Form) (ps : Row) (v : Tree) (hs vs : List Tree) (qs : List Form) → HasHead w h v hs → AllAreValues w hs (parts_of h) → opened h p ≡ Some qs → hits w (qs ++ ps) (hs ++ vs) ≡ true → hits w (p ∷ ps) (v ∷ vs) ≡ true
 opened-hits w h p ps v hs vs qs a b i j =
     let k = front w qs ps (parts_of h) hs vs (opened-long h p qs i) b j in
-    and-intro (unopened w h p v hs qs a b i k.0) k.1
+    and-both _ _ (unopened w h p v hs qs a b i k.0) k.1
 
 row-opened : (w : World) (h : Head) (r : Row) (v : Tree) (hs vs : List Tree) (rest : List Row) → HasHead w h v hs → AllAreValues w hs (parts_of h) → (covers w (opened_rows h rest) (hs ++ vs) ≡ true → covers w rest (v ∷ vs) ≡ true) → covers w (opened_rows h (r ∷ rest)) (hs ++ vs) ≡ true → covers w (r ∷ rest) (v ∷ vs) ≡ true
 row-opened w h [] v hs vs rest a b later i = or-second (hits w [] (v ∷ vs)) (covers w rest (v ∷ vs)) (later i)

@@ -23,7 +23,7 @@ weight-parts f.none = refl
 weight-parts (f.more p ps) = let i : weights ps ≡ row_weight (f.list_of ps) = weight-parts ps in omega (arith, i)
 
 -- what an open pattern is opened to weighs nothing, and what another is opened to weighs less than it
-abbrev one_if_closed : Bool → ℕ
+abbrev pub one_if_closed : Bool → ℕ
 one_if_closed true = 0
 one_if_closed false = 1
 
@@ -63,7 +63,7 @@ either-closed : (a b : Bool) → one_if_closed (a && b) ≤ one_if_closed a + on
 either-closed true b = omega arith
 either-closed false b = omega arith
 
-rows-lighter : (h : Head) (rows : List Row) → rows_weight (opened_rows h rows) + one_if_closed (all_open (column rows)) ≤ rows_weight rows
+pub rows-lighter : (h : Head) (rows : List Row) → rows_weight (opened_rows h rows) + one_if_closed (all_open (column rows)) ≤ rows_weight rows
 rows-lighter h [] = omega arith
 rows-lighter h ([] ∷ rows) = let i = rows-lighter h rows in omega (arith, i)
 rows-lighter h ((p ∷ ps) ∷ rows) = go (opened h p) refl (rows-lighter h rows) (either-closed (is_open p) (all_open (column rows)))

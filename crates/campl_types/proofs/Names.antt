@@ -1,17 +1,10 @@
 -- The test of names decides whether they are the same.
 use Rattle.std.proofs.Common.{◌≡◌, ◌∙◌, ◌⊎◌, inl, inr, refl, sym, ap, ℕ, Bool, true, false, ◌&&◌, ◌||◌, List, [], ◌∷◌, ◌++◌, eqb, eqb-true, eq-eqb, true≢false}
 use Rattle.campl_types.specs.Names.{Name, same_name, is_among}
+use Rattle.campl_types.proofs.Truth.{and-first, and-second}
 
 first-same : (a b : ℕ) (c : Bool) → (eqb a b && c) ≡ true → a ≡ b
-first-same a b c i = eqb-true a b (go (eqb a b) c i)
-  where
-    go : (p q : Bool) → (p && q) ≡ true → p ≡ true
-    go true q j = refl
-    go false q j = j
-
-rest-same : (p q : Bool) → (p && q) ≡ true → q ≡ true
-rest-same true q j = j
-rest-same false q j = absurd (true≢false (sym j))
+first-same a b c i = eqb-true a b (and-first (eqb a b) c i)
 
 pub same-is : (x y : Name) → same_name x y ≡ true → x ≡ y
 same-is [] [] i = refl
@@ -19,7 +12,7 @@ same-is [] (b ∷ y) i = absurd (true≢false (sym i))
 same-is (a ∷ x) [] i = absurd (true≢false (sym i))
 same-is (a ∷ x) (b ∷ y) i =
     let p : a ≡ b = first-same a b (same_name x y) i in
-    let q : x ≡ y = same-is x y (rest-same (eqb a b) (same_name x y) i) in
+    let q : x ≡ y = same-is x y (and-second (eqb a b) (same_name x y) i) in
     cc (p, q)
 
 pub same-itself : (x : Name) → same_name x x ≡ true

@@ -37,12 +37,12 @@ none-append n (x ∷ xs) ys i =
     let (c, d) = none-append n xs ys b in
     (rw (a, c) refl, d)
 
-alone-once : (n : Name) (ys : List Ident) → are_distinct (names_of ys) ≡ true → times n ys ≤ 1
-alone-once n [] i = omega arith
-alone-once n (y ∷ ys) i =
+pub at-most-once : (n : Name) (ys : List Ident) → are_distinct (names_of ys) ≡ true → times n ys ≤ 1
+at-most-once n [] i = omega arith
+at-most-once n (y ∷ ys) i =
     let a = and-first (not (is_among y.name (names_of ys))) (are_distinct (names_of ys)) i in
     let b = and-second (not (is_among y.name (names_of ys))) (are_distinct (names_of ys)) i in
-    let r : times n ys ≤ 1 = alone-once n ys b in
+    let r : times n ys ≤ 1 = at-most-once n ys b in
     elim (split (same_name n y.name)) [
       | inl j ↦
           let e : times n ys ≡ 0 = subst (λ z. times z ys ≡ 0) (sym (same-is n y.name j)) (among-none y.name ys (not-true (is_among y.name (names_of ys)) a)) in
@@ -52,7 +52,7 @@ alone-once n (y ∷ ys) i =
     ]
 
 pub once : (n : Name) (xs ys : List Ident) → are_distinct (names_of xs ++ names_of ys) ≡ true → times n xs + times n ys ≤ 1
-once n [] ys i = let r : times n ys ≤ 1 = alone-once n ys i in omega (arith, r)
+once n [] ys i = let r : times n ys ≤ 1 = at-most-once n ys i in omega (arith, r)
 once n (x ∷ xs) ys i =
     let a = and-first (not (is_among x.name (names_of xs ++ names_of ys))) (are_distinct (names_of xs ++ names_of ys)) i in
     let b = and-second (not (is_among x.name (names_of xs ++ names_of ys))) (are_distinct (names_of xs ++ names_of ys)) i in

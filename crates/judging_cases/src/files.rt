@@ -1,6 +1,6 @@
 //! Files of cases.
+use crate::trees::SOURCE_LIMIT;
 use anyhow::{Result, bail};
-use campl_cli::SOURCE_LIMIT;
 use campl_text::{FileShelf, Text, read_text};
 use std::alloc::Global;
 use std::rt::Files;

@@ -10,6 +10,7 @@ mod ends;
 mod files;
 mod plugs;
 mod sources;
+mod trees;
 
 use crate::files::text_of;
 use crate::plugs::print_plugs;

@@ -1,7 +1,7 @@
 //! Sources and their worlds.
 use crate::ends::print_ends;
-use anyhow::{Context, Result, bail};
-use campl_cli::{SOURCE_LIMIT, tree_of};
+use crate::trees::tree_of;
+use anyhow::{Context, Result};
 use campl_names::{World, declare};
 use campl_shown::chan_text;
 use campl_text::Text;
@@ -24,14 +24,7 @@ pub fn print_sources(alloc: Global, text: &Text, out: &mut impl Write) -> Result
 }
 
 fn print_source(alloc: Global, source: &str, out: &mut impl Write) -> Result<()> {
-    if source.len() as u64 > SOURCE_LIMIT {
-        bail!("a source is too long");
-    }
-    let text = Text::of(alloc, source)?;
-    let Ok(program) = tree_of(alloc, &text) else {
-        bail!("a source has no tree");
-    };
-    match declare(alloc, program) {
+    match declare(alloc, tree_of(alloc, source)?) {
         Ok(world) => print_world(alloc, &world, out),
         Err(fault) => Ok(writeln!(out, "{fault:?}")?),
     }

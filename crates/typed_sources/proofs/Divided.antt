@@ -1,14 +1,15 @@
 -- How the headers of a plug divide what is held, by a test that computes.
 use Rattle.std.proofs.Common.{◌≡◌, ◌⊎◌, inl, inr, refl, sym, ℕ, ◌≤◌, Bool, true, false, ◌&&◌, IsTrue, List, [], ◌∷◌, ◌++◌, Option, Some, None, true≢false, nat_eq, nat_le, eqb-true, leb-true}
-use Rattle.campl_tree.specs.declared.place.Ident.{Ident}
 use Rattle.campl_tree.specs.declared.service.Side.TheVariants.{Input, Output}
 use Rattle.campl_tree.specs.Plain.ChanType.{ChanType}
 use Rattle.campl_tree.specs.Plain.Process.{Link, Parts, no_parts, part_then}
 use Rattle.campl_types.specs.Names.{Name, same_name, is_among, are_distinct}
 use Rattle.campl_types.specs.World.{names_of}
 use Rattle.campl_types.specs.Held.{Channel, On, Held}
-use Rattle.campl_types.specs.Headers.{link_names, links_in, times, times_in, times_out, IsUsed, NamesDiffer, Divide}
-use Rattle.typed_sources.proofs.Within.{Within, passes, all_held, not-left, not-right, not-first, not-rest, first-true, rest-true}
+use Rattle.campl_types.specs.Headers.{link_names, links_in, times_in, times_out, IsUsed, NamesDiffer, Divide}
+use Rattle.campl_types.proofs.Truth.{and-first, and-second}
+use Rattle.campl_types.proofs.Times.{among-none}
+use Rattle.typed_sources.proofs.Within.{Within, passes, all_held, not-left, not-right, not-first, not-rest}
 
 -- whether a name is used as it has to be
 abbrev is_used : Option ChanType → Option Channel → (outputs inputs : ℕ) → Bool
@@ -19,7 +20,7 @@ is_used None (Some (On Input t)) outputs inputs = nat_eq outputs 0 && nat_eq inp
 is_used None None outputs inputs = nat_eq outputs 0 && nat_eq inputs 0
 
 both-are : (m n a b : ℕ) → IsTrue (nat_eq m a && nat_eq n b) → (m ≡ a) × (n ≡ b)
-both-are m n a b i = (eqb-true m a (first-true (nat_eq m a) (nat_eq n b) i), eqb-true n b (rest-true (nat_eq m a) (nat_eq n b) i))
+both-are m n a b i = (eqb-true m a (and-first (nat_eq m a) (nat_eq n b) i), eqb-true n b (and-second (nat_eq m a) (nat_eq n b) i))
 
 used-is : (link : Option ChanType) (held : Option Channel) (outputs inputs : ℕ) → IsTrue (is_used link held outputs inputs) → IsUsed link held outputs inputs
 used-is (Some t) None m n i = both-are m n 1 1 i
@@ -45,7 +46,7 @@ names_differ (part_then h body parts) = are_distinct (names_of h.inputs ++ names
 differ : (parts : Parts) → IsTrue (names_differ parts) → NamesDiffer parts
 differ no_parts i = tt
 differ (part_then h body parts) i =
-    let d = are_distinct (names_of h.inputs ++ names_of h.outputs) in (first-true d (names_differ parts) i, differ parts (rest-true d (names_differ parts) i))
+    let d = are_distinct (names_of h.inputs ++ names_of h.outputs) in (and-first d (names_differ parts) i, differ parts (and-second d (names_differ parts) i))
 
 -- Outside of all names
 
@@ -54,22 +55,17 @@ no-link x [] i = refl
 no-link x (l ∷ links) i =
     rw (not-first (same_name x l.name.name) (is_among x (link_names links)) i) (no-link x links (not-rest (same_name x l.name.name) (is_among x (link_names links)) i))
 
-no-times : (x : Name) (ys : List Ident) → is_among x (names_of ys) ≡ false → times x ys ≡ 0
-no-times x [] i = refl
-no-times x (y ∷ ys) i =
-    rw (not-first (same_name x y.name) (is_among x (names_of ys)) i, no-times x ys (not-rest (same_name x y.name) (is_among x (names_of ys)) i)) refl
-
 no-inputs : (x : Name) (parts : Parts) → is_among x (header_names parts) ≡ false → times_in x parts ≡ 0
 no-inputs x no_parts i = refl
 no-inputs x (part_then h body parts) i =
     let later = names_of h.outputs ++ header_names parts in
-    rw (no-times x h.inputs (not-left x (names_of h.inputs) later i), no-inputs x parts (not-right x (names_of h.outputs) (header_names parts) (not-right x (names_of h.inputs) later i))) refl
+    rw (among-none x h.inputs (not-left x (names_of h.inputs) later i), no-inputs x parts (not-right x (names_of h.outputs) (header_names parts) (not-right x (names_of h.inputs) later i))) refl
 
 no-outputs : (x : Name) (parts : Parts) → is_among x (header_names parts) ≡ false → times_out x parts ≡ 0
 no-outputs x no_parts i = refl
 no-outputs x (part_then h body parts) i =
     let later = not-right x (names_of h.inputs) (names_of h.outputs ++ header_names parts) i in
-    rw (no-times x h.outputs (not-left x (names_of h.outputs) (header_names parts) later), no-outputs x parts (not-right x (names_of h.outputs) (header_names parts) later)) refl
+    rw (among-none x h.outputs (not-left x (names_of h.outputs) (header_names parts) later), no-outputs x parts (not-right x (names_of h.outputs) (header_names parts) later)) refl
 
 -- the names of the links, of what is held and of the headers
 abbrev pub all_names : List Link → List Name → Parts → List Name
@@ -82,7 +78,7 @@ divides links names held parts = all_used links (all_names links names parts) he
 -- what is held is divided where each link, each held channel and each name of a header is used as it has to be
 pub divided : (links : List Link) {names : List Name} {held : Held} (parts : Parts) → Within names held → IsTrue (divides links names held parts) → Divide (links_in links) held parts
 divided links {names} {held} parts h t =
-    (λ x. go x (passes test all held x (first-true used (names_differ parts) t)), differ parts (rest-true used (names_differ parts) t))
+    (λ x. go x (passes test all held x (and-first used (names_differ parts) t)), differ parts (and-second used (names_differ parts) t))
   where
     all : List Name
     all = all_names links names parts
@@ -110,4 +106,4 @@ divided links {names} {held} parts h t =
 
 -- so many parts or branches
 pub between-is : (least n most : ℕ) → IsTrue (nat_le least n && nat_le n most) → (least ≤ n) × (n ≤ most)
-between-is least n most i = (leb-true least n (first-true (nat_le least n) (nat_le n most) i), leb-true n most (rest-true (nat_le least n) (nat_le n most) i))
+between-is least n most i = (leb-true least n (and-first (nat_le least n) (nat_le n most) i), leb-true n most (and-second (nat_le least n) (nat_le n most) i))

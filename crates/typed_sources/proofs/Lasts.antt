@@ -19,7 +19,7 @@ use Rattle.campl_types.specs.Fits.{Vars, fits}
 use Rattle.campl_types.specs.Sequential.{HasType, Found, PartsHaveTypes, AreExhaustive}
 use Rattle.campl_types.specs.Held.{On, Held, with, without, only}
 use Rattle.campl_types.specs.Headers.{Links, links_in, link_names, share, count}
-use Rattle.campl_types.specs.Linear.{RowsAreWellFormed, BranchesAreWellFormed, CasesAreWellFormed, PartsAreWellFormed, ProcessIsTyped, AreNew, HasEachOnce, AreHanded, AreJoined, body_rows, receives_on, most_parts, most_branches, row_variables, row_channels}
+use Rattle.campl_types.specs.Linear.{RowsAreWellFormed, BranchesAreWellFormed, CasesAreWellFormed, PartsAreWellFormed, ProcessIsTyped, AreNew, HasEachOnce, AreHanded, AreJoined, body_rows, receives_on, most_parts, most_branches, row_variables, row_channels, branch_names}
 use Rattle.typed_sources.proofs.Within.{Within, more, kept, shared, of-row, alone, closed, all_held, is_gone, is_plain}
 use Rattle.typed_sources.proofs.Divided.{divided, divides, between-is}
 use Rattle.typed_sources.proofs.Actions.{Flows}
@@ -77,11 +77,6 @@ part {links = links} {held = held} {header = header} first next =
     record { well-formed = (first.well-formed (shared links held header), next.well-formed) }
 
 -- race
-
--- the channels of the branches
-abbrev pub branch_names : Branches → List Name
-branch_names b.no_branches = []
-branch_names (b.branch_then x body rows) = x.name ∷ branch_names rows
 
 pub record BranchesFlow (w : World) (vs : Vars) (names : List Name) (held : Held) (rows : Branches) : Type 0 where
   pub well-formed : Within names held → BranchesAreWellFormed w vs held rows

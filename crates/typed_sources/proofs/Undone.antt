@@ -2,7 +2,7 @@
 -- and so the body that follows is well formed with what remains. With these a derivation is undone command by
 -- command, up to where there can be none.
 use Rattle.std.proofs.Common.{◌≡◌, ◌∙◌, refl, sym, ap, subst, Bool, false, List, [], ◌∷◌, Some, None, length}
-use Rattle.std.proofs.lemmas.Option.{none-some}
+use Rattle.std.proofs.lemmas.Option.{none-some, same_Some}
 use Rattle.campl_tree.specs.declared.place.Place.{Place}
 use Rattle.campl_tree.specs.declared.place.Ident.{Ident}
 use Rattle.campl_tree.specs.declared.service.Side.{Side}
@@ -42,9 +42,6 @@ same-deed w i = let p = same-side i in let q = same-type i in rw (p, q) refl
 same-picks : {cs ds : Choices} → Picks cs ≡ Picks ds → cs ≡ ds
 same-picks i = cc
 
-same-some : {A : Type 0} {x y : A} → Some x ≡ Some y → x ≡ y
-same-some i = cc
-
 same-on : {s r : Side} {t u : ChanType} → s ≡ r → t ≡ u → On s t ≡ On r u
 same-on i j = cc
 
@@ -59,7 +56,7 @@ after-hput {w} {vs} {held} {k = k} {x = x} {rest} {y = y} h i j named =
     let d = h.well-formed in
     let p = sym d.4 ∙ i in
     let q = same-picks (sym d.5 ∙ same-deed w p ∙ j) in
-    let r = same-some (sym d.6 ∙ ap (found k.name) q ∙ named) in
+    let r = same_Some _ _ (sym d.6 ∙ ap (found k.name) q ∙ named) in
     record { well-formed = subst (λ c. IsWellFormed w vs (with x.name (Some c) held) rest) (same-on (same-side p) r) d.7 }
 
 pub after-close : {w : World} {vs : Vars} {held : Held} {at : Place} {x : Ident} {rest : Body} → Formed w vs held (b.Then (b.Close at x) rest)
@@ -104,7 +101,7 @@ joined {negated = negated} {r = r} {t = t} {u = u} h i j =
 pub handed-inputs : {w : World} {vs : Vars} {held : Held} {at : Place} {x : Name} {args : Exprs} {inputs outputs : List Ident} {p : ProcessDecl}
     → Formed w vs held (b.Call at x args inputs outputs) → process_named w x ≡ Some p → AreHanded held Input inputs p.inputs
 handed-inputs {held = held} {inputs = inputs} h i =
-    let d = h.well-formed in subst (λ (p : ProcessDecl). AreHanded held Input inputs p.inputs) (same-some (sym d.1 ∙ i)) d.3
+    let d = h.well-formed in subst (λ (p : ProcessDecl). AreHanded held Input inputs p.inputs) (same_Some _ _ (sym d.1 ∙ i)) d.3
 
 -- a call that is checked: the result at the filling is the type, and the parts have their types
 abbrev Called : World → Vars → Exprs → SeqType → FunctionDecl → Type 0
@@ -114,7 +111,7 @@ Called w vs args t f =
 
 pub called : (w : World) (vs : Vars) (at : Place) (x : Name) (args : Exprs) (t : SeqType) (f : FunctionDecl)
     → HasType Checked w vs (e.Call at x args) t → function_named w x ≡ Some f → Called w vs args t f
-called w vs at x args t f h i = subst (Called w vs args t) (same-some (sym h.1 ∙ i)) h.2
+called w vs at x args t f h i = subst (Called w vs args t) (same_Some _ _ (sym h.1 ∙ i)) h.2
 
 -- no process halts on a channel that isn't held
 pub halts-on-none : {w : World} {vs : Vars} {held : Held} {at : Place} {x : Ident} → Formed w vs held (b.Halt at (Some x)) → held x.name ≡ None → ⊥

@@ -2,6 +2,7 @@
 -- follow from a list of names and a test that computes.
 use Rattle.std.proofs.Common.{◌≡◌, ◌∙◌, ◌⊎◌, inl, inr, refl, sym, subst, Bool, true, false, ◌&&◌, ◌||◌, IsTrue, if◌then◌else◌, List, [], ◌∷◌, ◌++◌, Option, Some, None, true≢false}
 use Rattle.std.proofs.lemmas.Option.{none-some}
+use Rattle.std.proofs.lemmas.Bool.{or_from}
 use Rattle.campl_tree.specs.declared.place.Ident.{Ident}
 use Rattle.campl_tree.specs.declared.service.Side.{Side}
 use Rattle.campl_tree.specs.declared.service.Side.TheVariants.{Input, Output}
@@ -14,6 +15,7 @@ use Rattle.campl_types.specs.Held.{Channel, On, Held, nothing_held, with, only, 
 use Rattle.campl_types.specs.Headers.{Links, share}
 use Rattle.campl_types.specs.Linear.{hold, row_channels}
 use Rattle.campl_types.proofs.Names.{same-turned, split-names}
+use Rattle.campl_types.proofs.Truth.{and-first, and-second}
 
 -- a record, so that names and what is held can be read off it
 pub record Within (names : List Name) (held : Held) : Type 0 where
@@ -29,14 +31,10 @@ pub not-rest : (p q : Bool) → (p || q) ≡ false → q ≡ false
 not-rest false q i = i
 not-rest true q i = absurd (true≢false i)
 
-neither : (p q : Bool) → p ≡ false → q ≡ false → (p || q) ≡ false
-neither false q i j = j
-neither true q i j = absurd (true≢false i)
-
 pub not-left : (y : Name) (xs ys : List Name) → is_among y (xs ++ ys) ≡ false → is_among y xs ≡ false
 not-left y [] ys i = refl
 not-left y (x ∷ xs) ys i =
-    neither (same_name y x) (is_among y xs) (not-first (same_name y x) (is_among y (xs ++ ys)) i)
+    or_from (same_name y x) (is_among y xs) (not-first (same_name y x) (is_among y (xs ++ ys)) i)
     (not-left y xs ys (not-rest (same_name y x) (is_among y (xs ++ ys)) i))
 
 pub not-right : (y : Name) (xs ys : List Name) → is_among y (xs ++ ys) ≡ false → is_among y ys ≡ false
@@ -106,23 +104,15 @@ abbrev pub is_plain : Name → Option Channel → Bool
 is_plain x None = true
 is_plain x (Some (On s t)) = is_closed t
 
-pub first-true : (p q : Bool) → (p && q) ≡ true → p ≡ true
-first-true true q i = refl
-first-true false q i = i
-
-pub rest-true : (p q : Bool) → (p && q) ≡ true → q ≡ true
-rest-true true q i = i
-rest-true false q i = absurd (true≢false (sym i))
-
 -- a name among the tested ones passes the test
 pub passes : (test : Name → Option Channel → Bool) (names : List Name) (held : Held) (y : Name) → IsTrue (all_held test names held) → (is_among y names ≡ false) ⊎ IsTrue (test y (held y))
 passes test [] held y t = inl refl
 passes test (x ∷ xs) held y t =
-    go (split-names y x) (passes test xs held y (rest-true (test x (held x)) (all_held test xs held) t))
+    go (split-names y x) (passes test xs held y (and-second (test x (held x)) (all_held test xs held) t))
   where
     go : (y ≡ x) ⊎ (same_name y x ≡ false) → (is_among y xs ≡ false) ⊎ IsTrue (test y (held y)) → (is_among y (x ∷ xs) ≡ false) ⊎ IsTrue (test y (held y))
-    go (inl i) other = inr (subst (λ z. IsTrue (test z (held z))) (sym i) (first-true (test x (held x)) (all_held test xs held) t))
-    go (inr i) (inl j) = inl (neither (same_name y x) (is_among y xs) i j)
+    go (inl i) other = inr (subst (λ z. IsTrue (test z (held z))) (sym i) (and-first (test x (held x)) (all_held test xs held) t))
+    go (inr i) (inl j) = inl (or_from (same_name y x) (is_among y xs) i j)
     go (inr i) (inr j) = inr j
 
 -- only these names are held: each other name is held no more

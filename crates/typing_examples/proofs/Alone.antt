@@ -1,19 +1,16 @@
 -- That nothing is held but certain channels: `simp` shows it with these, once for each name.
-use Rattle.std.proofs.Common.{◌≡◌, ◌∙◌, ◌⊎◌, inl, inr, refl, sym, subst, Bool, true, false, ◌||◌, List, ◌∷◌, Option, None, if◌then◌else◌}
+use Rattle.std.proofs.Common.{◌≡◌, ◌∙◌, ◌⊎◌, inl, inr, refl, sym, subst, Bool, true, false, List, ◌∷◌, Option, None, if◌then◌else◌}
 use Rattle.campl_types.specs.Names.{Name, same_name, is_among}
 use Rattle.campl_types.specs.Held.{Channel, Held, without, HoldsOnly}
 use Rattle.campl_types.proofs.Names.{same-itself, same-turned, split-names}
-
-neither : (p q : Bool) → (p || q) ≡ false → (p ≡ false) × (q ≡ false)
-neither false q i = (refl, i)
-neither true q i = absurd (cc i)
+use Rattle.campl_types.proofs.Truth.{or-none}
 
 -- a name that isn't among some is another than the first, and not among the rest
 pub other-than : (x : Name) (xs : List Name) (y : Name) → is_among y (x ∷ xs) ≡ false → same_name x y ≡ false
-other-than x xs y i = same-turned x y ∙ (neither (same_name y x) (is_among y xs) i).0
+other-than x xs y i = same-turned x y ∙ (or-none (same_name y x) (is_among y xs) i).0
 
 pub not-in-rest : (x : Name) (xs : List Name) (y : Name) → is_among y (x ∷ xs) ≡ false → is_among y xs ≡ false
-not-in-rest x xs y i = (neither (same_name y x) (is_among y xs) i).1
+not-in-rest x xs y i = (or-none (same_name y x) (is_among y xs) i).1
 
 -- of a name only the newest counts
 pub newest : (b : Bool) (c d e : Option Channel) → (if b then c else (if b then d else e)) ≡ (if b then c else e)

@@ -1,11 +1,12 @@
 -- What the search leaves open.
-use Rattle.std.proofs.Common.{◌∙◌, ◌++◌, sym, ap, arith, map}
+use Rattle.std.proofs.Common.{◌∙◌, ◌++◌, sym, ap, arith, map, append-nil}
 use Rattle.campl_tree.specs.View.{view_decl}
 use Rattle.campl_instructions.specs.View.{view_decision}
 use Rattle.campl_seqcheck.proofs.Judges.{weight-Compare, weight-Cons, weight-Append, weight-Calculate, weight-Pair, weight-Or, weight-And, weight-Negate, weight-CodeOf, weight-CharOf, weight-Call, weight-Constructor, weight-List}
 use Rattle.campl_seqcheck.proofs.Falls.{if-falls, case-falls, two-falls, one-falls, all-falls, item-within, row-within}
-use Rattle.campl_gen_functions.proofs.Decided.{all-at, all-end, rows-at, rows-end, row-weight, append-nothing, went}
+use Rattle.campl_gen_functions.proofs.Decided.{all-at, all-end, rows-at, rows-end, went}
 use Rattle.campl_gen_functions.proofs.deciding.+decide.Goals as goal
+use Rattle.campl_gen_exprs.proofs.Nodes.{row-weight}
 
 pub decide-decide_three-requires : goal.decide-decide_three-requires
 decide-decide_three-requires t c = (if-falls _ _ _ _ _ _ _ _ t c.in-If.is c.get.ensures c.get-in-If.ensures c.get-in-If-2.ensures c.decreases, tt)
@@ -61,7 +62,7 @@ decide_all-loop-i-preserved t c =
 
 pub decide_all-returns : goal.decide_all-returns
 decide_all-returns t c =
-    sym (append-nothing (map view_decision c.loop-i.out))
+    sym (append-nil (map view_decision c.loop-i.out))
     ∙ ap (λ l. map view_decision c.loop-i.out ++ l) (sym (all-end (map view_decl c.args.world.now) c.args.args.now c.loop-i.i c.loop-i-test.false)) ∙ c.loop-i.invariant
 
 pub decide_rows-decide_row-requires : goal.decide_rows-decide_row-requires
@@ -73,7 +74,7 @@ decide_rows-loop-i-preserved t c =
 
 pub decide_rows-returns : goal.decide_rows-returns
 decide_rows-returns t c =
-    sym (append-nothing (map view_decision c.loop-i.out))
+    sym (append-nil (map view_decision c.loop-i.out))
     ∙ ap (λ l. map view_decision c.loop-i.out ++ l) (sym (rows-end (map view_decl c.args.world.now) c.args.rows.now c.loop-i.i c.loop-i-test.false)) ∙ c.loop-i.invariant
 
 pub decide_row-decide-requires : goal.decide_row-decide-requires

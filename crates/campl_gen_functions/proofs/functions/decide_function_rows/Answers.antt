@@ -1,7 +1,7 @@
-use Rattle.std.proofs.Common.{◌∙◌, ◌++◌, ap, sym, map}
+use Rattle.std.proofs.Common.{◌∙◌, ◌++◌, ap, sym, map, append-nil}
 use Rattle.campl_tree.specs.View.{view_decl}
 use Rattle.campl_instructions.specs.View.{view_decision}
-use Rattle.campl_gen_functions.proofs.Decided.{function-rows-at, function-rows-end, went, append-nothing}
+use Rattle.campl_gen_functions.proofs.Decided.{function-rows-at, function-rows-end, went}
 use Rattle.campl_gen_functions.proofs.functions.decide_function_rows.Goals as goal
 
 pub loop-i-preserved : goal.loop-i-preserved
@@ -10,5 +10,5 @@ loop-i-preserved c =
 
 pub returns : goal.returns
 returns c =
-    sym (append-nothing (map view_decision c.loop-i.out))
+    sym (append-nil (map view_decision c.loop-i.out))
     ∙ ap (λ l. map view_decision c.loop-i.out ++ l) (sym (function-rows-end (map view_decl c.args.world.now) c.args.rows.now c.loop-i.i c.loop-i-test.false)) ∙ c.loop-i.invariant

@@ -107,13 +107,13 @@ path-tell (a ∷ p) (b ∷ q) e = elim (birth-tell a b) [
 
 -- Processes and services
 
-abbrev WhoLess : Who → Who → Type 0
+abbrev pub WhoLess : Who → Who → Type 0
 WhoLess (Process p) (Process q) = (length p < length q) ⊎ ((length p ≡ length q) × PathLess p q)
 WhoLess (Process p) (Service n) = Unit {0}
 WhoLess (Service m) (Process q) = ⊥
 WhoLess (Service m) (Service n) = m < n
 
-who-less : (u v : Who) → is_before u v ≡ true → WhoLess u v
+pub who-less : (u v : Who) → is_before u v ≡ true → WhoLess u v
 who-less (Process p) (Process q) i = elim (or-split (nat_lt (length p) (length q)) (eqb (length p) (length q) && are_births_before p q) i) [
   | inl j ↦ inl (ltb-true (length p) (length q) j)
   | inr j ↦ let (k, h) = both (eqb (length p) (length q)) (are_births_before p q) j in inr (eqb-true (length p) (length q) k, path-less p q h)
@@ -122,7 +122,7 @@ who-less (Process p) (Service n) i = tt
 who-less (Service m) (Process q) i = absurd (true≢false (sym i))
 who-less (Service m) (Service n) i = ltb-true m n i
 
-less-who : (u v : Who) → WhoLess u v → is_before u v ≡ true
+pub less-who : (u v : Who) → WhoLess u v → is_before u v ≡ true
 less-who (Process p) (Process q) (inl h) = or-first (nat_lt (length p) (length q)) (eqb (length p) (length q) && are_births_before p q) (lt-ltb (length p) (length q) h)
 less-who (Process p) (Process q) (inr (i, h)) =
     or-second (nat_lt (length p) (length q)) (eqb (length p) (length q) && are_births_before p q)
@@ -131,7 +131,7 @@ less-who (Process p) (Service n) h = refl
 less-who (Service m) (Process q) h = absurd h
 less-who (Service m) (Service n) h = lt-ltb m n h
 
-who-trans : (u v x : Who) → WhoLess u v → WhoLess v x → WhoLess u x
+pub who-trans : (u v x : Who) → WhoLess u v → WhoLess v x → WhoLess u x
 who-trans (Process p) (Process q) (Process r) (inl h) (inl k) = inl (omega (arith, h, k))
 who-trans (Process p) (Process q) (Process r) (inl h) (inr (j, k)) = inl (omega (arith, h, j))
 who-trans (Process p) (Process q) (Process r) (inr (i, h)) (inl k) = inl (omega (arith, i, k))
@@ -143,12 +143,12 @@ who-trans (Service m) (Process q) x h k = absurd h
 who-trans (Service m) (Service n) (Process r) h k = absurd k
 who-trans (Service m) (Service n) (Service o) h k = omega (arith, h, k)
 
-who-itself : (v : Who) → WhoLess v v → ⊥
+pub who-itself : (v : Who) → WhoLess v v → ⊥
 who-itself (Process p) (inl h) = omega (arith, h)
 who-itself (Process p) (inr (i, h)) = path-itself p h
 who-itself (Service n) h = omega (arith, h)
 
-who-tell : (u v : Who) → WhoLess u v ⊎ ((u ≡ v) ⊎ WhoLess v u)
+pub who-tell : (u v : Who) → WhoLess u v ⊎ ((u ≡ v) ⊎ WhoLess v u)
 who-tell (Process p) (Process q) = elim (tell (length p) (length q)) [
   | inl h ↦ inl (inl h)
   | inr (inr h) ↦ inr (inr (inl h))

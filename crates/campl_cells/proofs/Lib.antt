@@ -1,0 +1,21 @@
+pub mod Puts
+pub mod Tips
+pub mod Channels
+pub mod Sending
+pub mod Receiving
+pub mod Linking
+pub mod Nodes
+pub mod Together
+pub mod Renamed
+pub mod Alike
+pub mod Doing
+pub mod Serving
+pub mod Fresh
+pub mod Moving
+pub mod Nearby
+pub mod Looking
+pub mod Theorem
+pub mod Starting
+pub mod StartNodes
+pub mod GoingOn
+mod Examples

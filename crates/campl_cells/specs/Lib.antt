@@ -1,0 +1,7 @@
+pub mod Parts
+pub mod Wants
+pub mod Steps
+pub mod Stands
+pub mod Local
+pub mod Starts
+pub mod Runs

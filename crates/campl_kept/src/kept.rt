@@ -1,0 +1,155 @@
+//! A process's evaluation, kept advanced.
+ghost use Rattle.std.specs.Prelude.{◌≡◌, [], true, false, IfOk, OnOk, OnErr};
+ghost use Rattle.campl_code.specs.Frames.{frame_at};
+ghost use Rattle.campl_code_bodies.specs.Commands.{Cell};
+ghost use Rattle.campl_code_bodies.specs.Kept.{IsKept, spent_more};
+ghost use Rattle.campl_eval.specs.View.{code_of, seen, seens};
+ghost use Rattle.campl_kept.specs.View.{view_kept, is_lost, came_to, IsValues};
+ghost use Rattle.campl_kept.specs.Keeps.{Keeps};
+
+use campl_eval::{Eval, Turn};
+use campl_operands::{Variables, copies};
+use campl_program::Program;
+use campl_value::Value;
+use std::alloc::{AllocError, Global};
+use std::mem;
+
+/// An evaluation that has gone on as far as its calls reach.
+#[derive(Drop)]
+pub enum Kept {
+    /// It is at the process's instruction at this place, with the process's variables, and the values of the instruction's
+    /// expressions in their order.
+    Values {
+        at: usize,
+        variables: Variables,
+        values: Vec<Value>,
+    },
+    /// It stands before a call.
+    AtCall(Eval),
+    /// A value would be too deep, or an instruction can't be done.
+    Broken,
+}
+
+impl Kept {
+    /// The evaluation of the command at this place of a block, with these variables, before any call. Functions are numbered
+    /// first, then processes. An error means that memory is out, and drops the variables.
+    pub fn begin(
+        alloc: Global,
+        program: &Program,
+        block: usize,
+        at: usize,
+        variables: Variables,
+    ) -> Result<Kept, AllocError>
+        ensures { IfOk result (λ kept. Keeps (code_of program.now) (frame_at block at variables) [] 0 (view_kept kept)) }
+    {
+        let mut eval = Eval::start(alloc, block, at, variables);
+        match go_on(alloc, program, &mut eval, 0) {
+            Err(error) => Err(error),
+            Ok(Some(kept)) => Ok(kept),
+            Ok(None) => Ok(Kept::AtCall(eval)),
+        }
+    }
+
+    /// Gives so many more calls, which change nothing but where it stands before one. The error means that memory is out, and
+    /// comes from then on: what was kept is lost. Copy it first where it must stay.
+    pub fn advance(
+        &mut self,
+        alloc: Global,
+        program: &Program,
+        calls: u64,
+    ) -> Result<(), AllocError>
+        ensures kept { OnOk result ((c : Cell) → IsKept (code_of program.now) c (view_kept self.old) → IsKept (code_of program.now) (spent_more calls c) (view_kept self.new)) }
+        ensures ok { OnOk result (is_lost self.old ≡ false) }
+        ensures out { OnErr result (is_lost self.new ≡ true) }
+    {
+        let came = match self {
+            Kept::Values { .. } => return Ok(()),
+            Kept::Broken => return Ok(()),
+            Kept::AtCall(eval) => match go_on(alloc, program, eval, calls) {
+                Err(error) => return Err(error),
+                Ok(came) => came,
+            },
+        };
+        match came {
+            None => {}
+            Some(kept) => *self = kept,
+        }
+        Ok(())
+    }
+
+    /// The same again, which shares the parts of its values with this one. An error means that memory is out.
+    pub fn copy(&self, alloc: Global) -> Result<Kept, AllocError>
+        ensures kept { IfOk result (λ copy. view_kept copy ≡ view_kept self.now) }
+        ensures lost { IfOk result (λ copy. is_lost copy ≡ is_lost self.now) }
+    {
+        match self {
+            Kept::Values {
+                at,
+                variables,
+                values,
+            } => copy_values(alloc, *at, variables, values.as_slice()),
+            Kept::AtCall(eval) => match eval.copy(alloc) {
+                Err(error) => Err(error),
+                Ok(eval) => Ok(Kept::AtCall(eval)),
+            },
+            Kept::Broken => Ok(Kept::Broken),
+        }
+    }
+}
+
+fn copy_values(
+    alloc: Global,
+    at: usize,
+    variables: &Variables,
+    values: &[Value],
+) -> Result<Kept, AllocError>
+    ensures kept { IfOk result (λ copy. IsValues copy at variables.now values.now) }
+    ensures lost { IfOk result (λ copy. is_lost copy ≡ false) }
+{
+    let Ok(values) = copies(alloc, values) else {
+        return Err(AllocError);
+    };
+    let Ok(variables) = variables.copy(alloc) else {
+        return Err(AllocError);
+    };
+    Ok(Kept::Values {
+        at,
+        variables,
+        values,
+    })
+}
+
+// Gives an evaluation so many more calls. What it came to is answered, or nothing where it stands before a call again.
+fn go_on(
+    alloc: Global,
+    program: &Program,
+    eval: &mut Eval,
+    calls: u64,
+) -> Result<Option<Kept>, AllocError>
+    ensures came { IfOk result (λ came. Keeps (code_of program.now) (seen eval.old.machine.frame) (seens eval.old.machine.callers) calls (came_to came (seen eval.new.machine.frame) (seens eval.new.machine.callers))) }
+    ensures ok { OnOk result (eval.old.is_out ≡ false) }
+    ensures out { OnErr result (eval.new.is_out ≡ true) }
+{
+    // The calls of each turn are counted by themselves.
+    eval.spent = 0;
+    match eval.run(alloc, program, calls) {
+        Err(error) => Err(error),
+        Ok(Turn::More) => Ok(None),
+        Ok(Turn::Done(values, _)) => Ok(Some(values_of(alloc, eval, values))),
+        Ok(Turn::TooDeep(_)) => Ok(Some(Kept::Broken)),
+        Ok(Turn::Faulty(_)) => Ok(Some(Kept::Broken)),
+    }
+}
+
+// The values with the place and the variables of an evaluation, which has them no more.
+fn values_of(alloc: Global, eval: &mut Eval, values: Vec<Value>) -> Kept
+    ensures { IsValues result eval.old.machine.frame.at eval.old.machine.frame.variables values.items }
+{
+    let at = eval.machine.frame.at;
+    let variables = mem::replace(&mut eval.machine.frame.variables, Variables::new(alloc));
+    Kept::Values {
+        at,
+        variables,
+        values,
+    }
+}

@@ -1,0 +1,5 @@
+pub mod Pieces
+pub mod Unshown
+pub mod Said
+pub mod Again
+pub mod Examples

@@ -1,0 +1,3 @@
+pub mod Orders
+pub mod Boards
+pub mod Waiting
