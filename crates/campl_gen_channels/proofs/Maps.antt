@@ -74,10 +74,10 @@ found-append x (e ∷ es) fs = go (same_name x e.0) (found-append x es fs)
     go true later = refl
     go false later = later
 
-alike-append : (es fs gs : Channels) → NumbersAlike es fs → NumbersAlike (es ++ gs) (fs ++ gs)
+pub alike-append : (es fs gs : Channels) → NumbersAlike es fs → NumbersAlike (es ++ gs) (fs ++ gs)
 alike-append es fs gs same = record { told = λ x. found-append x es gs ∙ ap (λ o. either o (found x gs)) (same.told x) ∙ sym (found-append x fs gs) }
 
-alike-so : (es fs : Channels) → es ≡ fs → NumbersAlike es fs
+pub alike-so : (es fs : Channels) → es ≡ fs → NumbersAlike es fs
 alike-so es fs is = record { told = λ x. ap (found x) is }
 
 -- one more channel comes

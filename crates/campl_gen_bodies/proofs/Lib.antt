@@ -1,0 +1,12 @@
+pub mod Alike
+pub mod Commands
+pub mod Turns
+pub mod Numbers
+pub mod Lists
+pub mod Lasts
+pub mod RowTurns
+pub mod Divided
+pub mod Offering
+pub mod Peeled
+pub mod Sizes
+pub mod Children

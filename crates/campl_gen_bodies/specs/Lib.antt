@@ -1,0 +1,6 @@
+pub mod Making
+pub mod Actions
+pub mod Commands
+pub mod Peels
+pub mod Known
+pub mod View
