@@ -18,7 +18,7 @@ use Rattle.campl_cli.specs.Form.{Prints}
 use Rattle.campl_cli.specs.Refusals.{Files, IsDue, IsRefusedOrder, IsRefusedSource, IsSource, TakesMemory}
 use Rattle.campl_orders.specs.Orders.{IsOrder, PlainOrder, run, check, code, generate, migrate}
 use Rattle.campl_pipeline.specs.Source.{generated_source}
-use Rattle.campl_cli.specs.Told.{MigratesFile, accepted_line}
+use Rattle.campl_cli.specs.Told.{ListsFile, MigratesFile, accepted_line}
 use Rattle.campl_cli.specs.Performance.{IsTelling, IsDone, IsPerformance, IsPrinted}
 use Rattle.campl_cli.specs.Answer.{Stream, HadNothing, HasNoRun, HasRun, Does, RunsFile, IsAnswer, IsTold, IsRefused, printed, step_budget}
 use Rattle.campl_cli.proofs.Printing.{Comes, printing-runs}
@@ -106,7 +106,8 @@ module _ (words : List (List ℕ)) (files : Files) (out err : Stream) (report : 
   does : (order : PlainOrder) (performance : Performance) → IsDone order files performance → IsPrinted performance out err report → Does order files report (performance.output.items)
   does (run file script steps workers) performance (so_far, (p, accepted, done)) told = (so_far, runs_file p performance done told file accepted)
   does (check file) performance (accepted, done) told = (no_run accepted_line performance done told, accepted, done.told)
-  does (code file) performance done told = absurd done
+  does (code file) performance (output, lists, done) told =
+      (no_run output performance done told, subst (λ x. ListsFile files file x) (sym done.told) lists)
   does (generate stages workers) performance done told = (no_run (generated_source stages) performance done told, done.told)
   does (migrate file) performance (output, migrates, done) told =
       (no_run output performance done told, subst (λ x. MigratesFile files file x) (sym done.told) migrates)

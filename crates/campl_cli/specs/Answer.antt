@@ -16,7 +16,7 @@ use Rattle.campl_cli.specs.Form.{Prints}
 use Rattle.campl_cli.specs.Printing.{source_of}
 use Rattle.campl_cli.specs.Refusals.{Files, IsSource, IsAcceptedFile, IsDue, TakesMemory, runs, status_of, line_of, write_fault_line}
 use Rattle.campl_pipeline.specs.Source.{generated_source}
-use Rattle.campl_cli.specs.Told.{MigratesFile, accepted_line}
+use Rattle.campl_cli.specs.Told.{ListsFile, MigratesFile, accepted_line}
 use Rattle.campl_orders.specs.Orders.{IsOrder, PlainOrder, run, check, code, generate, migrate}
 
 -- what a stream has had before and after the call, where it tells it, and its counts of faults
@@ -80,7 +80,7 @@ pub record RunsFile (files : Files) (file : List ℕ) (report : Report) (output 
 abbrev pub Does : PlainOrder → Files → Report → (output : List ℕ) → Type 0
 Does (run file script steps workers) files report output = (runs script steps ≡ true) × RunsFile files file report output
 Does (check file) files report output = HasNoRun report × IsAcceptedFile files file × (output ≡ accepted_line)
-Does (code file) files report output = ⊥
+Does (code file) files report output = HasNoRun report × ListsFile files file output
 Does (generate stages workers) files report output = HasNoRun report × (output ≡ generated_source stages)
 Does (migrate file) files report output = HasNoRun report × MigratesFile files file output
 

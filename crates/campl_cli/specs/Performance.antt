@@ -12,7 +12,7 @@ use Rattle.campl_cli.specs.Printing.{journal_of}
 use Rattle.campl_cli.specs.Refusals.{Files, IsSource, IsAcceptedFile, runs, write_fault_line}
 use Rattle.campl_orders.specs.Orders.{PlainOrder, run, check, code, generate, migrate}
 use Rattle.campl_pipeline.specs.Source.{generated_source}
-use Rattle.campl_cli.specs.Told.{MigratesFile, accepted_line}
+use Rattle.campl_cli.specs.Told.{ListsFile, MigratesFile, accepted_line}
 use Rattle.campl_cli.specs.Answer.{Stream, Had, HadNothing, HadOrFailed, FailedIn}
 
 -- the journal of the run of these prints, and their output
@@ -33,7 +33,7 @@ pub record IsTelling (output : List ℕ) (performance : Performance) : Type 0 wh
 abbrev pub IsDone : PlainOrder → Files → Performance → Type 0
 IsDone (run file script steps workers) files performance = (runs script steps ≡ true) × ((p : Prints) × IsSource files file p × IsPerformance p performance)
 IsDone (check file) files performance = IsAcceptedFile files file × IsTelling accepted_line performance
-IsDone (code file) files performance = ⊥
+IsDone (code file) files performance = (output : List ℕ) × ListsFile files file output × IsTelling output performance
 IsDone (generate stages workers) files performance = IsTelling (generated_source stages) performance
 IsDone (migrate file) files performance = (output : List ℕ) × MigratesFile files file output × IsTelling output performance
 

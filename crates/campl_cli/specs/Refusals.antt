@@ -159,7 +159,7 @@ IsNotRun false = IsAcceptedText
 abbrev pub IsRefusedOrder : PlainOrder → Files → Refusal → Type 0
 IsRefusedOrder (run file script steps workers) files refusal = IsRefusedSource (IsNotRun (runs script steps)) files file refusal
 IsRefusedOrder (check file) files refusal = IsRefusedSource IsNone files file refusal
-IsRefusedOrder (code file) files refusal = IsRefusedSource IsAcceptedText files file refusal
+IsRefusedOrder (code file) files refusal = IsRefusedSource IsNone files file refusal
 IsRefusedOrder (generate stages workers) files refusal = refusal ≡ OutOfMemory
 IsRefusedOrder (migrate file) files refusal = IsRefusedMigration files file refusal
 

@@ -1,5 +1,5 @@
 //! Whether a program is accepted.
-ghost use Rattle.std.specs.Prelude.{◌≡◌, ℕ, List, MatchResult, map};
+ghost use Rattle.std.specs.Prelude.{◌≡◌, ℕ, List, IfOk, MatchResult, map};
 ghost use Rattle.campl_tree.specs.View.{view_decl, view_program};
 ghost use Rattle.campl_tree.specs.Plain.Decl.{Program as Seen};
 ghost use Rattle.campl_types.specs.WellDeclared.{IsWellDeclared};
@@ -25,8 +25,23 @@ use std::alloc::Global;
 pub fn judge(alloc: Global, program: Program) -> Result<(), Refusal>
     ensures { MatchResult result (λ _. IsAccepted (view_program program)) (IsRefusedFor (IsToldOfTree (view_program program))) }
 {
-    match judge_names(alloc, program) {
-        Ok(world) => judge_world(alloc, &world),
+    match judged(alloc, program) {
+        Ok(_) => Ok(()),
+        Err(refusal) => Err(refusal),
+    }
+}
+
+/// The world of a program that is accepted; else as [`judge`].
+pub fn judged(alloc: Global, program: Program) -> Result<World, Refusal>
+    ensures judged { MatchResult result (λ _. IsAccepted (view_program program)) (IsRefusedFor (IsToldOfTree (view_program program))) }
+    ensures world { IfOk result (λ world. map view_decl world ≡ world_of (view_program program)) }
+{
+    let world = match judge_names(alloc, program) {
+        Ok(world) => world,
+        Err(refusal) => return Err(refusal),
+    };
+    match judge_world(alloc, &world) {
+        Ok(()) => Ok(world),
         Err(refusal) => Err(refusal),
     }
 }

@@ -4,15 +4,16 @@ ghost use Rattle.campl_cli.specs.Answer.{stream, IsAnswer};
 ghost use Rattle.campl_cli.specs.Form.{Prints, prints_of};
 ghost use Rattle.campl_cli.specs.Performance.{IsDone, IsPerformance, IsTelling};
 ghost use Rattle.campl_cli.specs.Refusals.{files, HasText, PrintsText, IsAcceptedFile, IsDue, IsNone, IsNotRun, IsOfAnotherForm, IsRefusedMigration, IsRefusedOrder, IsRefusedSource, IsRefusedText, IsSource, IsUnread};
-ghost use Rattle.campl_cli.specs.Told.{MigratesFile, accepted_line};
+ghost use Rattle.campl_cli.specs.Told.{ListsFile, ListsText, MigratesFile, accepted_line};
 ghost use Rattle.campl_pipeline.specs.Source.{generated_source};
 ghost use Rattle.campl_cli.specs.Source.{IsAcceptedText, IsRefusedFor, IsSourceFault};
 ghost use Rattle.campl_orders.specs.Orders.{IsOrder, PlainOrder};
 ghost use Rattle.campl_orders.specs.Reading.{view};
 
 use crate::acceptance::judge;
+use crate::code::listing_of;
 use crate::gate::Gate;
-use crate::performance::{Performance, accept, perform, print, tell_text};
+use crate::performance::{Performance, accept, perform, print, tell_alone, tell_text};
 use crate::printer::{Printer, printer_of};
 use crate::refusal::{Refusal, SOURCE_LIMIT};
 use crate::report::Report;
@@ -27,9 +28,9 @@ use std::thread::Threads;
 
 /// Does what the words order, which are those after the program's name; `campl_orders` lists the orders.
 ///
-/// It reads the source FILE from the shelf, checks or runs it, or migrates the script FILE, or makes a source, and writes the output
-/// onto `out`. Where it is refused it writes one line onto `err` instead. So far a run without a script and with the usual budget is
-/// done; other runs, and `code`, are refused behind the check of their source. `docs/LANGUAGE.md` lists the statuses. The runtime and
+/// It reads the source FILE from the shelf, checks it, lists its code or runs it, or it migrates the script FILE or makes a source,
+/// and writes the output onto `out`. Where it is refused it writes one line onto `err` instead. So far a run without a script and with the usual budget is
+/// done; other runs are refused behind the check of their source. `docs/LANGUAGE.md` lists the statuses. The runtime and
 /// the gate serve runs of several workers.
 pub fn campl<R: Threads + Sync, F: Shelf, O: Sink, E: Sink, G: Gate>(
     rt: &R,
@@ -70,8 +71,8 @@ fn perform_words<F: Shelf>(
     }
 }
 
-// Does what is ordered, as far as it is built: of runs those without a script and with the usual budget, and no code. Of other
-// orders about a source it is checked.
+// Does what is ordered, as far as it is built: of runs those without a script and with the usual budget. Of any other run the
+// source is checked.
 fn perform_order<F: Shelf>(
     alloc: Global,
     order: Order<'_>,
@@ -95,7 +96,7 @@ fn perform_order<F: Shelf>(
             workers: _,
         } => Err(unbuilt(alloc, file, shelf)),
         Order::Check { file } => check_file(alloc, file, shelf),
-        Order::Code { file } => Err(unbuilt(alloc, file, shelf)),
+        Order::Code { file } => list_file(alloc, file, shelf),
         Order::Generate { stages, workers: _ } => generate_stages(alloc, stages),
         Order::Migrate { file } => migrate_file(alloc, file, shelf),
     }
@@ -109,6 +110,18 @@ fn check_file<F: Shelf>(alloc: Global, file: &str, shelf: &mut F) -> Result<Perf
 {
     match read_source(alloc, file, shelf) {
         Ok(text) => check_text(alloc, &text),
+        Err(refusal) => Err(refusal),
+    }
+}
+
+// Lists the code of the source of a file.
+fn list_file<F: Shelf>(alloc: Global, file: &str, shelf: &mut F) -> Result<Performance, Refusal>
+    ensures { MatchResult result
+        (λ performance. (output : List ℕ) × ListsFile (files F.holds F.faults shelf.old shelf.new) file.now output × IsTelling output performance)
+        (IsRefusedSource IsNone (files F.holds F.faults shelf.old shelf.new) file.now) }
+{
+    match read_source(alloc, file, shelf) {
+        Ok(text) => list_text(alloc, &text),
         Err(refusal) => Err(refusal),
     }
 }
@@ -190,6 +203,16 @@ fn check_text(alloc: Global, text: &Text) -> Result<Performance, Refusal>
     match accept(alloc) {
         Ok(performance) => Ok(performance),
         Err(_) => Err(Refusal::OutOfMemory),
+    }
+}
+
+// Lists the code of a text.
+fn list_text(alloc: Global, text: &Text) -> Result<Performance, Refusal>
+    ensures { MatchResult result (λ performance. (output : List ℕ) × ListsText text.now output × IsTelling output performance) (IsRefusedText IsNone text.now) }
+{
+    match listing_of(alloc, text) {
+        Ok(listing) => Ok(tell_alone(alloc, listing.into_bytes())),
+        Err(refusal) => Err(refusal),
     }
 }
 

@@ -1,10 +1,11 @@
 //! The command: it reads a source, judges it, runs it and writes what came out, or the one line of its refusal.
 //!
-//! Every source is judged, and `check` tells of one that it is accepted. `generate` makes a source, and `migrate` writes a script
-//! anew. So far the program runs that prints texts on one console, closes it and halts.
+//! Every source is judged; `check` tells of one that it is accepted, and `code` lists its code. `generate` makes a source, and
+//! `migrate` writes a script anew. So far the program runs that prints texts on one console, closes it and halts.
 #![tactic(auto)]
 
 mod acceptance;
+mod code;
 mod command;
 mod fault;
 mod functions;
@@ -22,7 +23,8 @@ mod script;
 mod source;
 mod telling;
 
-pub use acceptance::{judge, one_verdict};
+pub use acceptance::{judge, judged, one_verdict};
+pub use code::code_of;
 pub use command::campl;
 pub use fault::{Detail, FaultKind, SourceFault};
 pub use functions::judge_functions;
