@@ -24,8 +24,6 @@ from names import HERE, PRELUDE
 from processes import answer, free_in
 from trees import tree_of
 
-MOST_LINES = 60
-
 
 class Maker:
     """The block that is made, and the number of the next decision."""

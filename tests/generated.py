@@ -23,7 +23,7 @@ from evaluation import Declared, arguments_by_chance, bound_in, called
 from grammar import cases_of, text_of
 from listings import Decision, code_of
 from machine import Machine
-from names import HERE, PRELUDE
+from names import PRELUDE
 from processes import answer, free_in
 from trees import tree_of
 
