@@ -1,0 +1,5 @@
+type many = C0 | C1 | C2 | C3 | C4 | C5 | C6 | C7 | C8 | C9 | C10 | C11 | C12 | C13 | C14 | C15 | C16 | C17 | C18 | C19 | C20 | C21 | C22 | C23 | C24 | C25 | C26 | C27 | C28 | C29
+let next m = match m with C0 -> C1 | C1 -> C2 | C2 -> C3 | C3 -> C4 | C4 -> C5 | C5 -> C6 | C6 -> C7 | C7 -> C8 | C8 -> C9 | C9 -> C10 | C10 -> C11 | C11 -> C12 | C12 -> C13 | C13 -> C14 | C14 -> C15 | C15 -> C16 | C16 -> C17 | C17 -> C18 | C18 -> C19 | C19 -> C20 | C20 -> C21 | C21 -> C22 | C22 -> C23 | C23 -> C24 | C24 -> C25 | C25 -> C26 | C26 -> C27 | C27 -> C28 | C28 -> C29 | C29 -> C0
+let told m = match m with C0 -> 0 | C1 -> 1 | C2 -> 2 | C3 -> 3 | C4 -> 4 | C5 -> 5 | C6 -> 6 | C7 -> 7 | C8 -> 8 | C9 -> 9 | C10 -> 10 | C11 -> 11 | C12 -> 12 | C13 -> 13 | C14 -> 14 | C15 -> 15 | C16 -> 16 | C17 -> 17 | C18 -> 18 | C19 -> 19 | C20 -> 20 | C21 -> 21 | C22 -> 22 | C23 -> 23 | C24 -> 24 | C25 -> 25 | C26 -> 26 | C27 -> 27 | C28 -> 28 | C29 -> 29
+let rec turns n m = if n < 1 then told m else turns (n - 1) (next m)
+let () = print_int (turns (int_of_string Sys.argv.(1)) C0); print_newline ()
