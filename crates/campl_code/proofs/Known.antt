@@ -68,9 +68,6 @@ none-binds xs h ns = ap (λ (l : Vars). var_names l ++ ns) (let e : xs ≡ [] = 
 one-binds : (x : Name) (t : SeqType) (xs : Vars) → Some ((x, t) ∷ []) ≡ Some xs → Binds xs (x ∷ [])
 one-binds x t xs h ns = ap (λ (l : Vars). var_names l ++ ns) (let e : xs ≡ (x, t) ∷ [] = cc h in e)
 
-none-some : {A : Type 0} (x : A) → None ≡ Some x → ⊥
-none-some x i = cc i
-
 when : {A : Type 0} → (b : Bool) (o : Option A) (x : A) → (if b then o else None) ≡ Some x → o ≡ Some x
 when true o x i = i
 when false o x i = absurd (cc i)
@@ -101,7 +98,7 @@ mutual
   fit-binds w (Cons at q r) (s.List t) xs h = both-binds (fits w q t) (fits w r (s.List t)) xs (bound_in q) (bound_in r) h (λ ys i. fit-binds w q t ys i) (λ zs i. fit-binds w r (s.List t) zs i)
   fit-binds w (Pair at q r) (s.Pair t u) xs h = both-binds (fits w q t) (fits w r u) xs (bound_in q) (bound_in r) h (λ ys i. fit-binds w q t ys i) (λ zs i. fit-binds w r u zs i)
   fit-binds w (Constructor at x ps) (s.Named there y ts) xs h = built-binds w at x ps there y ts xs h (λ us i. all-bind w ps us xs i)
-  fit-binds w q t xs h = absurd (none-some xs h)
+  fit-binds w q t xs h = absurd (cc h)
 
   each-binds : (w : World) (ps : Patterns) (t : SeqType) (xs : Vars) → each_fits w ps t ≡ Some xs → Binds xs (bound_in_all ps)
   each-binds w no_patterns t xs h = none-binds xs h
@@ -110,7 +107,7 @@ mutual
   pub all-bind : (w : World) (ps : Patterns) (ts : List SeqType) (xs : Vars) → all_fit w ps ts ≡ Some xs → Binds xs (bound_in_all ps)
   all-bind w no_patterns [] xs h = none-binds xs h
   all-bind w (pattern_then q ps) (t ∷ ts) xs h = both-binds (fits w q t) (all_fit w ps ts) xs (bound_in q) (bound_in_all ps) h (λ ys i. fit-binds w q t ys i) (λ zs i. all-bind w ps ts zs i)
-  all-bind w ps ts xs h = absurd (none-some xs h)
+  all-bind w ps ts xs h = absurd (cc h)
 
 -- Expressions
 

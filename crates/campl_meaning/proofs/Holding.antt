@@ -1,5 +1,5 @@
 -- What stands under a name among the ends that a process holds.
-use Rattle.std.proofs.Common.{◌≡◌, Bool, true, false, refl, List, [], ◌∷◌, ◌||◌, if◌then◌else◌, Option, Some, None}
+use Rattle.std.proofs.Common.{◌≡◌, Bool, true, false, refl, [], ◌∷◌, ◌||◌, if◌then◌else◌, Option, Some, None}
 use Rattle.campl_machine.specs.Names.{End}
 use Rattle.campl_types.specs.Names.{Name, same_name, is_among, found}
 use Rattle.campl_types.specs.Held.{Channel}

@@ -1,21 +1,13 @@
 -- The order of processes and services in the run of one at a time is strict and total.
 use Rattle.std.specs.Prelude.{nat_lt}
-use Rattle.std.proofs.Common.{◌≡◌, ◌⊎◌, inl, inr, ℕ, ◌<◌, arith, Bool, true, false, ◌||◌, ◌&&◌, [], ◌∷◌, length, refl, sym, ap, subst, ◌∙◌, true≢false, eqb, eqb-true, eq-eqb, ltb}
-use Rattle.std.proofs.lemmas.Bool.{ltb-true, ltb-false, lt-ltb}
+use Rattle.std.proofs.Common.{◌≡◌, ◌⊎◌, inl, inr, ◌<◌, arith, true, false, ◌&&◌, [], ◌∷◌, length, refl, sym, ap, subst, ◌∙◌, true≢false, eqb, eqb-true, eq-eqb}
+use Rattle.std.proofs.lemmas.Bool.{ltb-true, lt-ltb}
 use Rattle.campl_machine.specs.Names.{Birth, Path, Who, Process, Service, same_birth}
 use Rattle.campl_machine.proofs.Same.{same_birth-is, same_birth-refl}
 use Rattle.campl_machine.proofs.Updates.{split, both}
 use Rattle.campl_meaning.specs.OneAtATime.{is_birth_before, are_births_before, is_before}
+use Rattle.campl_plug.proofs.Peeled.{order-cases}
 use Rattle.campl_types.proofs.Truth.{or-first, or-second, or-split, and-both}
-
-tell : (m n : ℕ) → (m < n) ⊎ ((m ≡ n) ⊎ (n < m))
-tell m n = elim (split (ltb m n)) [
-  | inl i ↦ inl (ltb-true m n i)
-  | inr i ↦ elim (split (ltb n m)) [
-    | inl j ↦ inr (inr (ltb-true n m j))
-    | inr j ↦ inr (inl (omega (arith, ltb-false m n i, ltb-false n m j)))
-  ]
-]
 
 -- Births
 
@@ -44,10 +36,10 @@ birth-itself a (inl i) = omega (arith, i)
 birth-itself a (inr (i, j)) = omega (arith, j)
 
 birth-tell : (a b : Birth) → BirthLess a b ⊎ ((a ≡ b) ⊎ BirthLess b a)
-birth-tell a b = elim (tell a.step b.step) [
+birth-tell a b = elim (order-cases a.step b.step) [
   | inl i ↦ inl (inl i)
   | inr (inr i) ↦ inr (inr (inl i))
-  | inr (inl i) ↦ elim (tell a.place b.place) [
+  | inr (inl i) ↦ elim (order-cases a.place b.place) [
     | inl j ↦ inl (inr (i, j))
     | inr (inr j) ↦ inr (inr (inr (sym i, j)))
     | inr (inl j) ↦ inr (inl (same_birth-is a b (and-both (eqb a.step b.step) (eqb a.place b.place) (eq-eqb a.step b.step i) (eq-eqb a.place b.place j))))
@@ -149,7 +141,7 @@ who-itself (Process p) (inr (i, h)) = path-itself p h
 who-itself (Service n) h = omega (arith, h)
 
 pub who-tell : (u v : Who) → WhoLess u v ⊎ ((u ≡ v) ⊎ WhoLess v u)
-who-tell (Process p) (Process q) = elim (tell (length p) (length q)) [
+who-tell (Process p) (Process q) = elim (order-cases (length p) (length q)) [
   | inl h ↦ inl (inl h)
   | inr (inr h) ↦ inr (inr (inl h))
   | inr (inl i) ↦ elim (path-tell p q i) [
@@ -160,7 +152,7 @@ who-tell (Process p) (Process q) = elim (tell (length p) (length q)) [
 ]
 who-tell (Process p) (Service n) = inl tt
 who-tell (Service m) (Process q) = inr (inr tt)
-who-tell (Service m) (Service n) = elim (tell m n) [ inl h ↦ inl h | inr (inr h) ↦ inr (inr h) | inr (inl i) ↦ inr (inl (ap Service i)) ]
+who-tell (Service m) (Service n) = elim (order-cases m n) [ inl h ↦ inl h | inr (inr h) ↦ inr (inr h) | inr (inl i) ↦ inr (inl (ap Service i)) ]
 
 -- In tests
 

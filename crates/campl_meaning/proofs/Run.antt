@@ -1,5 +1,5 @@
 -- Where nothing is wrong with `run`, it is declared and has services alone.
-use Rattle.std.proofs.Common.{◌≡◌, refl, Bool, true, false, List, [], ◌∷◌, ◌++◌, Option, Some, None}
+use Rattle.std.proofs.Common.{◌≡◌, refl, Bool, true, false, [], Option, Some, None}
 use Rattle.std.specs.Prelude.{codes}
 use Rattle.campl_tree.specs.Plain.Decl.{ProcessDecl}
 use Rattle.campl_types.specs.World.{World, process_named}

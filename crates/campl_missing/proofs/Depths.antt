@@ -14,71 +14,8 @@ use Rattle.campl_types.specs.Forms.{Form, Forms, anythings}
 use Rattle.campl_types.specs.Substitution as types
 use Rattle.campl_types.specs.World.{World, TypeEntry, DataType, ProtocolType, CoprotocolType, type_named, as_data, data_named, or_else, where_named, type_entry}
 use Rattle.campl_types.specs.Missing.{Row, Head, IsNumber, IsCharacter, IsTruth, IsNil, IsCons, IsPair, IsBuilt, IsOther, parts_of, heads, literals, opened, opened_rows, and_then, is_open, all_open, column, weight, weights, row_weight, rows_weight, built_heads}
+use Rattle.campl_types.proofs.MissingUnfolds.{one_if_closed, rows-lighter}
 use Rattle.campl_missing.specs.Heads.{constructor_heads}
-
--- Weights
-
-weight-append : (qs ps : Row) → row_weight (qs ++ ps) ≡ row_weight qs + row_weight ps
-weight-append [] ps = omega arith
-weight-append (q ∷ qs) ps = let i : row_weight (qs ++ ps) ≡ row_weight qs + row_weight ps = weight-append qs ps in omega (arith, i)
-
-weight-anythings : (n : ℕ) → row_weight (anythings n) ≡ 0
-weight-anythings zero = refl
-weight-anythings (suc n) = let i : row_weight (anythings n) ≡ 0 = weight-anythings n in omega (arith, i)
-
-weight-parts : (ps : Forms) → weights ps ≡ row_weight (f.list_of ps)
-weight-parts f.none = refl
-weight-parts (f.more p ps) = let i : weights ps ≡ row_weight (f.list_of ps) = weight-parts ps in omega (arith, i)
-
--- what an open pattern is opened to weighs nothing, and what another is opened to weighs less than it
-abbrev one_if_closed : Bool → ℕ
-one_if_closed true = 0
-one_if_closed false = 1
-
-so-weight : (b : Bool) (ps qs : List Form) → (if b then Some ps else None) ≡ Some qs → row_weight qs ≡ row_weight ps
-so-weight true ps qs i = let e : ps ≡ qs = cc i in ap row_weight (sym e)
-so-weight false ps qs i = absurd (cc i)
-
-some-weight : (ps qs : List Form) → Some ps ≡ Some qs → row_weight qs ≡ row_weight ps
-some-weight ps qs i = let e : ps ≡ qs = cc i in ap row_weight (sym e)
-
-opened-weight : (h : Head) (p : Form) (qs : List Form) → opened h p ≡ Some qs → row_weight qs + one_if_closed (is_open p) ≤ weight p
-opened-weight h f.Anything qs i = let a = some-weight (anythings (length (parts_of h))) qs i in let z = weight-anythings (length (parts_of h)) in omega (arith, a, z)
-opened-weight h (f.Variable x) qs i = let a = some-weight (anythings (length (parts_of h))) qs i in let z = weight-anythings (length (parts_of h)) in omega (arith, a, z)
-opened-weight (IsNumber m) (f.Number n) qs i = let a = so-weight _ [] qs i in omega (arith, a)
-opened-weight (IsCharacter c) (f.Character d) qs i = let a = so-weight _ [] qs i in omega (arith, a)
-opened-weight (IsTruth b) (f.Truth c) qs i = let a = so-weight _ [] qs i in omega (arith, a)
-opened-weight IsNil f.Nil qs i = let a = some-weight [] qs i in omega (arith, a)
-opened-weight (IsCons t) (f.Cons p q) qs i = let a : row_weight qs ≡ weight p + (weight q + 0) = some-weight (p ∷ q ∷ []) qs i in omega (arith, a)
-opened-weight (IsPair t u) (f.Pair p q) qs i = let a : row_weight qs ≡ weight p + (weight q + 0) = some-weight (p ∷ q ∷ []) qs i in omega (arith, a)
-opened-weight (IsBuilt k ts) (f.Built x ps) qs i =
-    let a : row_weight qs ≡ row_weight (f.list_of ps) = so-weight (same_name k x && eqb (length ts) (length (f.list_of ps))) (f.list_of ps) qs i in
-    let b : weights ps ≡ row_weight (f.list_of ps) = weight-parts ps in omega (arith, a, b)
-opened-weight _ _ qs i = absurd (cc i)
-
-closed-weight : (p : Form) → one_if_closed (is_open p) ≤ weight p
-closed-weight f.Anything = omega arith
-closed-weight (f.Variable x) = omega arith
-closed-weight (f.Number n) = omega arith
-closed-weight (f.Character n) = omega arith
-closed-weight (f.Truth b) = omega arith
-closed-weight f.Nil = omega arith
-closed-weight (f.Cons p q) = omega arith
-closed-weight (f.Pair p q) = omega arith
-closed-weight (f.Built x ps) = omega arith
-
-either-closed : (a b : Bool) → one_if_closed (a && b) ≤ one_if_closed a + one_if_closed b
-either-closed true b = omega arith
-either-closed false b = omega arith
-
-pub rows-lighter : (h : Head) (rows : List Row) → rows_weight (opened_rows h rows) + one_if_closed (all_open (column rows)) ≤ rows_weight rows
-rows-lighter h [] = omega arith
-rows-lighter h ([] ∷ rows) = let i = rows-lighter h rows in omega (arith, i)
-rows-lighter h ((p ∷ ps) ∷ rows) = go (opened h p) refl (rows-lighter h rows) (either-closed (is_open p) (all_open (column rows)))
-  where
-    go : (o : Option (List Form)) → opened h p ≡ o → rows_weight (opened_rows h rows) + one_if_closed (all_open (column rows)) ≤ rows_weight rows → one_if_closed (is_open p && all_open (column rows)) ≤ one_if_closed (is_open p) + one_if_closed (all_open (column rows)) → rows_weight (and_then (option_map (λ (parts : List Form). parts ++ ps) o) (opened_rows h rows)) + one_if_closed (is_open p && all_open (column rows)) ≤ weight p + row_weight ps + rows_weight rows
-    go None i later e = let c = closed-weight p in omega (arith, later, e, c)
-    go (Some qs) i later e = let a : row_weight (qs ++ ps) ≡ row_weight qs + row_weight ps = weight-append qs ps in let b = opened-weight h p qs i in omega (arith, a, b, later, e)
 
 -- Parts
 

@@ -18,9 +18,15 @@ use std::marker::Model;
 /// What type parameters stand for: names with types, each name once.
 ///
 /// Contracts see the list of the names with their types, in the order in which they were bound.
-#[derive(Drop)]
 pub struct Filling {
     types: IndexMap<Name, SeqType>,
+}
+
+impl Drop for Filling {
+    fn drop(self) {
+        let Filling { types } = self;
+        drop(types);
+    }
 }
 
 impl Model for Filling {

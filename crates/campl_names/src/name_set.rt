@@ -9,9 +9,15 @@ use std::alloc::{AllocError, Global};
 use std::marker::Model;
 
 /// Names, each once, in the order in which they came.
-#[derive(Drop)]
 pub struct NameSet {
     names: IndexSet<Name>,
+}
+
+impl Drop for NameSet {
+    fn drop(self) {
+        let NameSet { names } = self;
+        drop(names);
+    }
 }
 
 impl Model for NameSet {

@@ -27,11 +27,3 @@ newest-behind false false c d e f = refl
 pub given-up : (b : Bool) → ◌≡◌ {A = Option Channel} (if b then None else None) None
 given-up true = refl
 given-up false = refl
-
--- where one of the names is given up, nothing is held but under the others
-pub others-alone : (x : Name) (xs : List Name) (held : Held) → HoldsOnly (x ∷ xs) held → HoldsOnly xs (without x held)
-others-alone x xs held alone y i = go (split-names y x)
-  where
-    go : (y ≡ x) ⊎ (same_name y x ≡ false) → without x held y ≡ None
-    go (inl e) = subst (λ z. without x held z ≡ None) (sym e) (rw (same-itself x) refl)
-    go (inr other) = let turned : same_name x y ≡ false = same-turned x y ∙ other in rw turned (alone y (rw other i))

@@ -4,6 +4,7 @@ use Rattle.campl_tree.specs.declared.place.Ident.{Ident}
 use Rattle.campl_tree.specs.Plain.ChanType.{TopBot}
 use Rattle.campl_tree.specs.Plain.Process as b
 use Rattle.campl_tree.specs.Plain.Decl.{Program}
+use Rattle.campl_linear.proofs.Lists.{only-before}
 use Rattle.campl_types.specs.Names.{Name, same_name}
 use Rattle.campl_types.specs.World.{world_of}
 use Rattle.campl_types.specs.Held.{nothing_held}
@@ -12,7 +13,6 @@ use Rattle.campl_types.specs.Linear.{IsWellFormed}
 use Rattle.campl_types.specs.Typed.{IsTyped}
 use Rattle.campl_types.proofs.Names.{split-names}
 use Rattle.typing_examples.proofs.Sources.{place, ident, process}
-use Rattle.typing_examples.proofs.Alone.{others-alone}
 
 abbrev c : Ident
 c = ident 2 17 (codes "c")
@@ -100,8 +100,8 @@ cycle-well-formed = (
   refl,
   (each-used-once, (refl, (refl, tt))),
   (
-    (_, _, refl, refl, (_, _, refl, refl, others-alone (codes "c") (codes "d" ∷ []) (share (links_in links) nothing_held outputs) (λ y i. rw i refl))),
-    ((_, _, refl, refl, (_, _, refl, refl, others-alone (codes "c") (codes "d" ∷ []) (share (links_in links) nothing_held inputs) (λ y i. rw i refl))), tt),
+    (_, _, refl, refl, (_, _, refl, refl, only-before (codes "c") (codes "d" ∷ []) (share (links_in links) nothing_held outputs) (λ y i. rw i refl))),
+    ((_, _, refl, refl, (_, _, refl, refl, only-before (codes "c") (codes "d" ∷ []) (share (links_in links) nothing_held inputs) (λ y i. rw i refl))), tt),
   ),
 )
 
