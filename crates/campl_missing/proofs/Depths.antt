@@ -1,6 +1,6 @@
 -- How deep heads are tried inside heads: each that is tried leaves rows that weigh less, and has at most so
 -- many parts as some constructor of the world.
-use Rattle.std.proofs.Common.{◌≡◌, refl, sym, ap, subst, ◌∙◌, ℕ, zero, suc, ◌+◌, ◌*◌, ◌≤◌, ◌<◌, max, Bool, true, false, ◌&&◌, List, [], ◌∷◌, ◌++◌, Option, Some, None, if◌then◌else◌, map, length, option_map, arith, eqb, get_or}
+use Rattle.std.proofs.Common.{◌≡◌, refl, sym, ap, subst, ◌∙◌, ℕ, zero, suc, ◌+◌, ◌*◌, ◌≤◌, ◌<◌, max, Bool, true, false, List, [], ◌∷◌, ◌++◌, Option, Some, None, map, length, arith, get_or}
 use Rattle.campl_tree.specs.Plain.Decl.{Decl, Data, Protocol, Coprotocol, Function, Process, DataDecl, DataConstructor}
 use Rattle.std.proofs.Math.Nat.{mul-le-mul_left}
 use Rattle.campl_tree.specs.declared.place.Place.{Place}
@@ -10,10 +10,10 @@ use Rattle.campl_tree.specs.View.{view_seq}
 use Rattle.campl_tree.specs.declared.types.SeqType as declared
 use Rattle.campl_types.specs.Names.{Name, same_name}
 use Rattle.campl_types.specs.Forms as f
-use Rattle.campl_types.specs.Forms.{Form, Forms, anythings}
+use Rattle.campl_types.specs.Forms.{Form}
 use Rattle.campl_types.specs.Substitution as types
 use Rattle.campl_types.specs.World.{World, TypeEntry, DataType, ProtocolType, CoprotocolType, type_named, as_data, data_named, or_else, where_named, type_entry}
-use Rattle.campl_types.specs.Missing.{Row, Head, IsNumber, IsCharacter, IsTruth, IsNil, IsCons, IsPair, IsBuilt, IsOther, parts_of, heads, literals, opened, opened_rows, and_then, is_open, all_open, column, weight, weights, row_weight, rows_weight, built_heads}
+use Rattle.campl_types.specs.Missing.{Row, Head, IsOther, parts_of, heads, literals, opened_rows, all_open, column, rows_weight, built_heads}
 use Rattle.campl_types.proofs.MissingUnfolds.{one_if_closed, rows-lighter}
 use Rattle.campl_missing.specs.Heads.{constructor_heads}
 

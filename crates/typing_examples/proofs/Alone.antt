@@ -1,8 +1,8 @@
 -- That nothing is held but certain channels: `simp` shows it with these, once for each name.
-use Rattle.std.proofs.Common.{◌≡◌, ◌∙◌, ◌⊎◌, inl, inr, refl, sym, subst, Bool, true, false, List, ◌∷◌, Option, None, if◌then◌else◌}
+use Rattle.std.proofs.Common.{◌≡◌, ◌∙◌, refl, Bool, true, false, List, ◌∷◌, Option, None, if◌then◌else◌}
 use Rattle.campl_types.specs.Names.{Name, same_name, is_among}
-use Rattle.campl_types.specs.Held.{Channel, Held, without, HoldsOnly}
-use Rattle.campl_types.proofs.Names.{same-itself, same-turned, split-names}
+use Rattle.campl_types.specs.Held.{Channel}
+use Rattle.campl_types.proofs.Names.{same-turned}
 use Rattle.campl_types.proofs.Truth.{or-none}
 
 -- a name that isn't among some is another than the first, and not among the rest
