@@ -1,3 +1,4 @@
 pub mod Earlier
 pub mod Matches
 pub mod Waits
+pub mod Alike

@@ -1,5 +1,5 @@
 -- What ranks tell of the names of processes and services.
-use Rattle.std.specs.Prelude.{◌≡◌, ◌≢◌, ◌⊎◌, ◌≤◌, ◌<◌, ◌^◌, ◌-◌, ℕ, List, [], ◌∷◌, ◌++◌, length, slice_index_or}
+use Rattle.std.specs.Prelude.{◌≡◌, ◌≢◌, ◌⊎◌, ◌≤◌, ◌<◌, ◌^◌, ◌-◌, ℕ, zero, suc, List, [], ◌∷◌, ◌++◌, length, slice_index_or}
 use Rattle.campl_machine.specs.Names.{Birth, Path, Who, Process, Service}
 use Rattle.campl_order.specs.declared.order.Rank.{Rank}
 
@@ -52,3 +52,12 @@ IsAbove rs i a = (a ≡ i) ⊎ (a ≡ (rank rs (rank rs i).jump).jump)
 abbrev pub IsChild : (ℕ → Who) → (parent born n : ℕ) → Type 0
 IsChild names parent born n =
     ((above : Path) → names parent ≡ Process above → names n ≡ Process (above ++ birth born ∷ [])) × ((i : ℕ) → i < n → names i ≢ names n)
+
+-- n has the name of this service, which no lower number has
+abbrev pub IsNextService : (ℕ → Who) → (service n : ℕ) → Type 0
+IsNextService names service n = (names n ≡ Service service) × ((i : ℕ) → i < n → names i ≢ Service service)
+
+-- 0 is the first process, and behind it are the services
+abbrev pub names_at_start : ℕ → Who
+names_at_start zero = Process []
+names_at_start (suc n) = Service n

@@ -1,5 +1,5 @@
 -- Who may have a step is flagged; of all others it is known on which ends they wait.
-use Rattle.std.specs.Prelude.{◌≡◌, ◌<◌, ◌≤◌, ◌⊎◌, ℕ, Bool, true, false, List, [], ◌∷◌, Option, Some, None, length, set, slice_index_or, vec_len, vec_capacity, ◌+◌}
+use Rattle.std.specs.Prelude.{◌≡◌, ◌<◌, ◌≤◌, ◌⊎◌, ℕ, Bool, true, false, List, [], ◌∷◌, Option, Some, None, length, set, slice_index_or, vec_len, vec_capacity, ◌+◌, ◌^◌}
 use Rattle.campl_machine.specs.Names.{Who}
 use Rattle.campl_order.specs.declared.schedule.Schedule.{Schedule}
 use Rattle.campl_order.specs.Orders.{Ranked}
@@ -17,11 +17,12 @@ pub record IsScheduled (names : ℕ → Who) (s : Schedule) : Type 0 where
   pub room : length s.order.ranks.items ≤ length s.board.flags.items
   pub waiters : (e i : ℕ) → waiter s.waiting.items e ≡ Some i → i < length s.order.ranks.items
 
--- room for one more process, its flag, and the ends of two more channels
+-- room for one more process, its flag and number, and the ends of two more channels
 pub record HasRoom (s : Schedule) : Type 0 where
   pub rank : vec_len s.order.ranks < vec_capacity s.order.ranks
   pub flag : vec_len s.order.ranks < vec_len s.board.flags
   pub ends : vec_len s.waiting + 4 ≤ vec_capacity s.waiting
+  pub few : vec_len s.order.ranks < 2 ^ 31
 
 -- Changes
 
@@ -30,10 +31,9 @@ abbrev pub flags_woken : Option ℕ → List Bool → List Bool
 flags_woken None flags = flags
 flags_woken (Some i) flags = set flags i true
 
--- this one waits on these ends
-abbrev pub waits_on : ℕ → List ℕ → List (Option ℕ) → List (Option ℕ)
-waits_on i [] waiting = waiting
-waits_on i (e ∷ es) waiting = waits_on i es (set waiting e (Some i))
+-- all below this number are flagged
+abbrev pub AreFlagged : List Bool → ℕ → Type 0
+AreFlagged flags count = (i : ℕ) → i < count → is_flagged flags i ≡ true
 
 -- What the tables keep
 

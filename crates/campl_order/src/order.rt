@@ -121,7 +121,8 @@ impl Order {
     pub fn bear_first(&mut self)
         requires room { vec_len self.old.ranks < vec_capacity self.old.ranks }
         requires first { self.old.ranks.items ≡ [] }
-        ensures { (names : ℕ → Who) → names 0 ≡ Process [] → Ranked names self.new.ranks.items }
+        ensures ranked { (names : ℕ → Who) → names 0 ≡ Process [] → Ranked names self.new.ranks.items }
+        ensures len { vec_len self.new.ranks ≡ 1 }
     {
         self.ranks.push_reserved(Rank {
             depth: 0,

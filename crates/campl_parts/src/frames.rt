@@ -10,7 +10,7 @@ use campl_program::Program;
 
 /// The number of parameters of the process with this number, and how many variables its frame has; None where there is no such
 /// process. It goes over the process's instructions.
-pub(crate) fn process_entry(program: &Program, n: u32) -> Option<(u32, usize)>
+pub fn process_entry(program: &Program, n: u32) -> Option<(u32, usize)>
     ensures { result ≡ option_map (λ b. (b.variables, frame.frame_size (code_of program.now).decisions b)) (slice_get (code_of program.now).processes n) }
 {
     let code = program.raw();

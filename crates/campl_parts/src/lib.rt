@@ -30,6 +30,7 @@ mod wires;
 
 pub use ends::Ends;
 pub use entry::{Entry, Kind};
+pub use frames::process_entry;
 pub use inbox::EndPart;
 pub use journal::Journal;
 pub use part::{Drawn, Life, ProcPart, Running};

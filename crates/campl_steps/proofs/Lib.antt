@@ -1,0 +1,9 @@
+pub mod Able
+pub mod Applied
+pub mod Arms
+pub mod Attending
+pub mod Making
+pub mod Since
+pub mod Starting
+pub mod Swapped
+pub mod Within

@@ -1,0 +1,10 @@
+pub mod Acting
+pub mod Uses
+pub mod Told
+pub mod Turning
+pub mod Watching
+pub mod Alone
+pub mod Beginning
+pub mod Breaking
+pub mod Ending
+pub mod Along
