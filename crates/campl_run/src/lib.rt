@@ -1,0 +1,19 @@
+//! Whole runs: code is run from its start to its end, and what comes out is put together.
+//!
+//! ```text
+//! let names = services_of(alloc, &world)?;
+//! let scripts = read_script(alloc, &text, names.as_slice())?; // or Scripts::none(alloc, count)?
+//! let ran = run(alloc, &world, code, scripts, budget)?;
+//! ```
+//!
+//! In reading order: `ended`, how a run ends; `services`, the services of a source and their start; `run`, the run; `output`, what
+//! it prints.
+#![tactic(auto)]
+
+mod ended;
+mod run;
+mod services;
+
+pub use ended::Ended;
+pub use run::{Ran, run};
+pub use services::services_of;

