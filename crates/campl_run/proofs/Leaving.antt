@@ -23,7 +23,7 @@ some-there f (p ∷ ps) e = go (f p.life) refl (some-there f ps) e
     go : (b : Bool) → f p.life ≡ b → (has_some f ps ≡ true → (i : ℕ) × (q : ProcPart) × (slice_get ps i ≡ Some q) × (f q.life ≡ true)) → (b || has_some f ps) ≡ true
         → (i : ℕ) × (q : ProcPart) × (slice_get (p ∷ ps) i ≡ Some q) × (f q.life ≡ true)
     go true is rest e = (0, p, refl, is)
-    go false is rest e = let r = rest e in (suc r.0, r.1.0, r.1.1.0, r.1.1.1)
+    go false is rest e = let (i, q, there, holds) = rest e in (suc i, q, there, holds)
 
 -- and of none, where it holds of none of them
 none-there : (f : Life → Bool) (ps : List ProcPart) → has_some f ps ≡ false → (i : ℕ) (p : ProcPart) → slice_get ps i ≡ Some p → f p.life ≡ false

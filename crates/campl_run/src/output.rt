@@ -130,8 +130,8 @@ fn push_asked(
 {
     let mut is_first = true;
     for i in 0..names.len() {
+        let name = &names[i];
         if is_asked(service_at(processes, i + 1)) {
-            let name = &names[i];
             push_name(alloc, output, is_first, &name.name)?;
             is_first = false;
         }
