@@ -11,7 +11,6 @@ use Rattle.campl_service.specs.Output.{end_of_line, transcript_lines}
 use Rattle.campl_service.specs.Services.{want}
 use Rattle.campl_meaning.specs.States.{State, Runs, Serves}
 use Rattle.campl_meaning.specs.Reductions.{Configuration}
-use Rattle.campl_meaning.specs.Ends as e
 use Rattle.campl_meaning.specs.Ends.{transcript_in, transcript_of}
 use Rattle.campl_meaning.specs.Output.{all_lines, asked_names, ending_words, output_of, spelled}
 use Rattle.campl_turns.specs.Endings.{service_state}
@@ -65,7 +64,7 @@ pub asked-next : (o o2 whole : List ℕ) (first first2 asked : Bool) (i : ℕ) (
 asked-next o o2 whole first first2 asked i x names ps l is kept told so more second =
     let rest = asked_from (i + 1) (drop (i + 1) names) ps in
     let names_are : asked_from i (drop i names) ps ≡ x.name ∷ rest =
-        next-asked i x names ps l is ∙ ap (λ (b : Bool). if b then x.name ∷ rest else rest) (sym told ∙ so) in
+    next-asked i x names ps l is ∙ ap (λ (b : Bool). if b then x.name ∷ rest else rest) (sym told ∙ so) in
     ap (λ b. o2 ++ led_names b rest) second ∙ (ap (λ z. z ++ led_names false rest) more ∙ (append_assoc o (led first (spelled x.name)) (led_names false rest)
     ∙ (ap (λ ns. o ++ led_names first ns) (sym names_are) ∙ kept)))
 
@@ -75,7 +74,7 @@ pub asked-skipped : (o o2 whole : List ℕ) (first first2 asked : Bool) (i : ℕ
 asked-skipped o o2 whole first first2 asked i x names ps l is kept told so same same_first =
     let rest = asked_from (i + 1) (drop (i + 1) names) ps in
     let names_are : asked_from i (drop i names) ps ≡ rest =
-        next-asked i x names ps l is ∙ ap (λ (b : Bool). if b then x.name ∷ rest else rest) (sym told ∙ so) in
+    next-asked i x names ps l is ∙ ap (λ (b : Bool). if b then x.name ∷ rest else rest) (sym told ∙ so) in
     ap₂ (λ z b. z ++ led_names b rest) same same_first ∙ (ap (λ ns. o ++ led_names first ns) (sym names_are) ∙ kept)
 
 -- What the source has at a service's name
@@ -100,12 +99,12 @@ module _ (name : ℕ → End) (ps : List ProcPart) (c : Configuration) where
   lines-same n (x ∷ xs) have =
       let (p, there, node) = have n (omega arith) (omega arith) in
       let transcripts : transcript_told (serving_of (slice_get ps (n + 1))) ≡ transcript_of n c =
-          ap (λ o. transcript_told (serving_of o)) there ∙ (sym (transcript-same name p.life) ∙ ap transcript_in (sym node)) in
+      ap (λ o. transcript_told (serving_of o)) there ∙ (sym (transcript-same name p.life) ∙ ap transcript_in (sym node)) in
       let lines : lines_of x.name (serving_of (slice_get ps (n + 1))) ≡ codes "channel " ++ (spelled x.name ++ (end_of_line ++ transcript_lines (transcript_of n c))) =
-          ap (λ z. codes "channel " ++ z) (append_assoc (spelled x.name) end_of_line (transcript_lines (transcript_told (serving_of (slice_get ps (n + 1))))))
-          ∙ ap (λ t. codes "channel " ++ (spelled x.name ++ (end_of_line ++ transcript_lines t))) transcripts in
+      ap (λ z. codes "channel " ++ z) (append_assoc (spelled x.name) end_of_line (transcript_lines (transcript_told (serving_of (slice_get ps (n + 1))))))
+      ∙ ap (λ t. codes "channel " ++ (spelled x.name ++ (end_of_line ++ transcript_lines t))) transcripts in
       let rest : lines_from (n + 1) xs ps ≡ all_lines (suc n) xs c =
-          ap (λ k. lines_from k xs ps) (add-one n) ∙ lines-same (suc n) xs (λ k a b. have k (omega (arith, a)) (omega (arith, b))) in
+      ap (λ k. lines_from k xs ps) (add-one n) ∙ lines-same (suc n) xs (λ k a b. have k (omega (arith, a)) (omega (arith, b))) in
       ap₂ (λ a b. a ++ b) lines rest
 
   names-same : (n : ℕ) (xs : List ServiceName) → HaveServices name ps c n (length xs) → asked_from n xs ps ≡ asked_names n xs c
@@ -113,9 +112,9 @@ module _ (name : ℕ → End) (ps : List ProcPart) (c : Configuration) where
   names-same n (x ∷ xs) have =
       let (p, there, node) = have n (omega arith) (omega arith) in
       let asked : is_asked (serving_of (slice_get ps (n + 1))) ≡ asked_state (c.nodes (Service n)) =
-          ap (λ o. is_asked (serving_of o)) there ∙ (sym (asked-same name p.life) ∙ ap asked_state (sym node)) in
+      ap (λ o. is_asked (serving_of o)) there ∙ (sym (asked-same name p.life) ∙ ap asked_state (sym node)) in
       let rest : asked_from (n + 1) xs ps ≡ asked_names (suc n) xs c =
-          ap (λ k. asked_from k xs ps) (add-one n) ∙ names-same (suc n) xs (λ k a b. have k (omega (arith, a)) (omega (arith, b))) in
+      ap (λ k. asked_from k xs ps) (add-one n) ∙ names-same (suc n) xs (λ k a b. have k (omega (arith, a)) (omega (arith, b))) in
       ap₂ (λ (b : Bool) (ns : List Name). if b then x.name ∷ ns else ns) asked rest
 
   pub output-told : (w : World) (names : List ServiceName) (ended : Ended) (steps : ℕ) → names ≡ services_of w → HaveServices name ps c 0 (length (services_of w))
@@ -123,6 +122,6 @@ module _ (name : ℕ → End) (ps : List ProcPart) (c : Configuration) where
   output-told w names ended steps named have =
       let xs = services_of w in
       let words : ending_told ended (asked_from 0 xs ps) ≡ ending_words (ending_of ended) (asked_names 0 xs c) =
-          words-told ended (asked_from 0 xs ps) ∙ ap (ending_words (ending_of ended)) (names-same 0 xs have) in
+      words-told ended (asked_from 0 xs ps) ∙ ap (ending_words (ending_of ended)) (names-same 0 xs have) in
       ap (λ ns. printed ns ps ended steps) named
       ∙ ap₂ (λ a b. a ++ (b ++ (codes " after " ++ (decimal steps ++ (codes " steps" ++ end_of_line))))) (lines-same 0 xs have) words

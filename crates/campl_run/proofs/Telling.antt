@@ -1,32 +1,28 @@
 -- What is told of a run that stopped is the source's run.
-use Rattle.std.proofs.Common.{◌≡◌, refl, sym, ap, subst, ◌∙◌, ℕ, suc, ◌+◌, ◌/◌, ◌%◌, ◌<◌, ◌≤◌, List, [], ◌++◌, Option, Some, None, IsSome, Ok, length, option_map, slice_get, add-one, arith}
+use Rattle.std.proofs.Common.{◌≡◌, refl, sym, ap, subst, ◌∙◌, ℕ, suc, ◌+◌, ◌/◌, ◌%◌, ◌≤◌, List, [], ◌++◌, Option, Some, None, IsSome, Ok, length, option_map, slice_get, add-one, arith}
 use Rattle.std.proofs.lemmas.Option.{slice_get_past}
 use Rattle.campl_tree.specs.declared.service.ServiceName.{ServiceName}
 use Rattle.campl_tree.specs.Plain.Decl.{Program}
-use Rattle.campl_machine.specs.Names.{End, Service}
 use Rattle.campl_machine.specs.Runs.{Run}
 use Rattle.campl_types.specs.World.{world_of}
 use Rattle.campl_types.specs.Run.{services_of}
 use Rattle.campl_service.specs.Scripts.{Lines}
 use Rattle.campl_meaning.specs.Reductions.{Configuration}
-use Rattle.campl_meaning.specs.Ends as e
 use Rattle.campl_meaning.specs.Ends.{IsEnd}
 use Rattle.campl_meaning.specs.Journals.{IsRunOf, naming_at_start}
 use Rattle.campl_meaning.specs.OneAtATime.{FirstReduces}
-use Rattle.campl_meaning.specs.Output.{output_of}
 use Rattle.campl_meaning.specs.Start.{start}
 use Rattle.campl_code.specs.Instructions.{Code}
 use Rattle.campl_cells.specs.Parts.{far, near}
 use Rattle.campl_cells.specs.Stands.{IsFresh, Naming}
 use Rattle.campl_cells.specs.Starts.{start_naming}
 use Rattle.campl_turns.specs.Turns.{told_naming}
-use Rattle.campl_turns.specs.Endings.{service_state}
 use Rattle.campl_turns.proofs.Ending.{ends, service-told}
 use Rattle.campl_parts.specs.declared.entry.Entry.{Entry}
 use Rattle.campl_parts.specs.declared.part.ProcPart.{ProcPart}
 use Rattle.campl_parts.specs.Journal.{weight_of}
-use Rattle.campl_parts.specs.Tables.{procs, tips}
-use Rattle.campl_parts.specs.Views.{life_of, proc_of, tip_of}
+use Rattle.campl_parts.specs.Tables.{tips}
+use Rattle.campl_parts.specs.Views.{proc_of, tip_of}
 use Rattle.campl_steps.specs.declared.config.Config.{Config}
 use Rattle.campl_steps.specs.Configs.{drawn, parts}
 use Rattle.campl_solo.specs.declared.solo.Solo.{Solo}
@@ -35,7 +31,6 @@ use Rattle.campl_solo.specs.declared.solo.Stop.TheVariants.{Rested, Spent}
 use Rattle.campl_solo.specs.Solos as solos
 use Rattle.campl_solo.specs.Solos.{IsAtStart, IsRun, Stopped, told}
 use Rattle.campl_run.specs.declared.ended.Ended.{Ended}
-use Rattle.campl_run.specs.declared.ended.Ended.TheVariants as v
 use Rattle.campl_run.specs.declared.running.Ran.{Ran}
 use Rattle.campl_run.specs.Runs.{IsRunThrough, ending_of}
 use Rattle.campl_run.specs.Endings.{EndsSo, IsToldOf}

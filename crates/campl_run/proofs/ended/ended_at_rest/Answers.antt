@@ -1,4 +1,4 @@
-use Rattle.std.proofs.Common.{◌≡◌, sym, ap, ◌∙◌, Bool, true, false}
+use Rattle.std.proofs.Common.{◌≡◌, sym, ap, ◌∙◌, true, false}
 use Rattle.campl_run.specs.Left.{has_some, is_broken, is_running}
 use Rattle.campl_run.proofs.Leaving.{left-broken, left-running, none-broken, none-running}
 use Rattle.campl_run.proofs.ended.ended_at_rest.Goals as goal
