@@ -21,6 +21,7 @@ abbrev pub seen : Option (Bor Attending) → Option Serving
 seen None = None
 seen (Some s) = Some s.now.serving
 
+-- the service of a life, if it is one
 abbrev pub serving_in : Life → Option Serving
 serving_in l.Ended = None
 serving_in (l.Runs r) = None
@@ -36,6 +37,7 @@ abbrev pub transcript_told : Option Serving → Records
 transcript_told None = []
 transcript_told (Some s) = s.transcript
 
+-- it wants a line, and its script has none left
 abbrev pub is_spent : Want → Bool
 is_spent w.Pick = false
 is_spent w.Text = false

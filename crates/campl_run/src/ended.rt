@@ -2,12 +2,12 @@
 ghost use Rattle.std.specs.Prelude.{◌≡◌};
 ghost use Rattle.campl_turns.specs.Endings.{EndsAs};
 ghost use Rattle.campl_steps.specs.Configs.{parts};
-ghost use Rattle.campl_run.specs.Left.{has_some, is_broken, is_running};
+ghost use Rattle.campl_run.specs.Left.{has_some, is_broken, is_running, keeps_break};
 ghost use Rattle.campl_run.specs.Endings.{EndsSo};
 ghost use Rattle.campl_run.specs.Runs.{ending_of};
 
 use campl_kept::Kept;
-use campl_parts::{Life, ProcPart, Running};
+use campl_parts::{Life, ProcPart};
 use campl_solo::Stop;
 use campl_steps::Config;
 
@@ -86,15 +86,15 @@ fn is_broken(life: &Life) -> bool
 {
     match life {
         Life::Ended => false,
-        Life::Runs(running) => keeps_break(running),
+        Life::Runs(running) => keeps_break(&running.kept),
         Life::Serves(_, _) => false,
     }
 }
 
-fn keeps_break(running: &Running) -> bool
-    ensures { result ≡ is_broken (Life.Runs running.now) }
+fn keeps_break(kept: &Kept) -> bool
+    ensures { result ≡ keeps_break kept.now }
 {
-    match &running.kept {
+    match kept {
         Kept::Values { .. } => false,
         Kept::AtCall(_) => false,
         Kept::Broken => true,

@@ -40,7 +40,7 @@ pub struct Ran {
 
 /// Runs the code of a source with these scripts, one for each service in the order of the heading, until it ends or as many steps
 /// are made as the budget allows. It is the run of one at a time: again and again the first process or service, in the order of
-/// their names, that has a step makes it. The code's jumps lead onward.
+/// their names, that has a step makes it. The source is accepted, the code stands for it, and the code's jumps lead onward.
 ///
 /// # Errors
 ///

@@ -1,5 +1,5 @@
 //! The services of a source, and their start.
-ghost use Rattle.std.specs.Prelude.{◌≡◌, ◌++◌, ◌<◌, ◌^◌, IfOk, OnOk, length, map};
+ghost use Rattle.std.specs.Prelude.{◌≡◌, ◌++◌, IfOk, OnOk, length, map};
 ghost use Rattle.campl_tree.specs.View.{view_decl};
 ghost use Rattle.campl_types.specs.Run.{service, services_of};
 ghost use Rattle.campl_meaning.specs.Start.{kind_at};
