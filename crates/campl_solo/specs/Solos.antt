@@ -63,12 +63,18 @@ pub record HasStepped (source : Program) (code : Code) (n : Naming) (c : Configu
   pub turn : Turn
   pub means : Means (world_of source) code n (parts old.config) c turn (entry_of entry) (parts new.config)
   pub run : IsRun source code means.naming means.next new
+  pub one : entry.weight ≡ 1
 
--- that, or nobody has a step, or memory or numbers are out, and the run stands where it stood
+-- it stands where it stood
+pub record Stays (source : Program) (code : Code) (n : Naming) (c : Configuration) (old new : Solo) : Type 0 where
+  pub run : IsRun source code n c new
+  pub same : parts new.config ≡ parts old.config
+
+-- that step, or nobody has one, or memory or numbers are out
 abbrev pub Steps : Program → Code → Naming → Configuration → (old new : Solo) → Result (Option Entry) AllocError → Type 0
 Steps source code n c old new (Ok (Some entry)) = HasStepped source code n c old entry new
-Steps source code n c old new (Ok None) = IsRun source code n c new × Rest code new
-Steps source code n c old new (Err error) = IsRun source code n c new
+Steps source code n c old new (Ok None) = Stays source code n c old new × Rest code new
+Steps source code n c old new (Err error) = Stays source code n c old new
 
 -- the entries that a run made, as journals tell them
 abbrev pub told : List Entry → List journals.Entry
