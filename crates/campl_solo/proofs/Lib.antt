@@ -4,4 +4,5 @@ pub mod Flags
 pub mod Growing
 pub mod Resting
 pub mod Stepping
+pub mod Trying
 pub mod Waking

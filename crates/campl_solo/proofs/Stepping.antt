@@ -1,5 +1,5 @@
 -- A run stands where it stood, or the first of its flagged has made a step.
-use Rattle.std.proofs.Common.{◌≡◌, ◌≢◌, ◌≤◌, ◌<◌, ◌⊎◌, inl, inr, ℕ, suc, Bool, true, false, List, [], Option, Some, None, IsSome, length, set, option_map, refl, sym, ap, subst, ◌∙◌, arith, true≢false}
+use Rattle.std.proofs.Common.{◌≡◌, ◌≢◌, ◌≤◌, ◌<◌, ◌⊎◌, inl, inr, ℕ, suc, Bool, true, false, List, [], Option, Some, None, IsSome, Ok, length, set, option_map, refl, sym, ap, subst, ◌∙◌, arith, true≢false}
 use Rattle.std.proofs.lemmas.Option.{slice_get_past}
 use Rattle.campl_machine.specs.Names.{Service, Who}
 use Rattle.campl_tree.specs.Plain.Decl.{Program}
@@ -191,3 +191,8 @@ module _ (source : Program) (code : Code) (n : Naming) (c : Configuration) (old 
                     subst (λ (m : Parts). IsSome (m.process (suc k))) (sym z.parts) (written-keeps (peopled (drawn old.config) p z.process z.life z.child) (parts old.config).process (suc k) here.0),
                     means.grows.who (suc k) here.0 ∙ here.1,
                   )
+
+-- who has a step may reduce
+pub enabled : (source : Program) (code : Code) (n : Naming) (c : Configuration) (old : Solo) → IsRun source code n c old → (p i : ℕ) → CanStep code (drawn old.config) (parts old.config) p i (Ok true) → IsEnabled (world_of source) c
+enabled source code n c old run p i (entry, m2, s) =
+    (n.who p, may-reduce (world_of source) code n (parts old.config) c run.stands run.represents (drawn old.config) (fresh old.config) p s.process s.there i s.change s.changes)

@@ -34,7 +34,7 @@ pub enum Stop {
 #[derive(Drop)]
 pub struct Solo {
     pub config: Config,
-    schedule: Schedule,
+    pub(crate) schedule: Schedule,
 }
 
 impl Solo {
