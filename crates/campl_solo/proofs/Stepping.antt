@@ -19,6 +19,7 @@ use Rattle.campl_turns.specs.Turns.{IsFirstTurn, IsLonely, Rests, WaitsOn}
 use Rattle.campl_turns.proofs.Alone.{lonely}
 use Rattle.campl_turns.proofs.Along.{may-reduce, met-on}
 use Rattle.campl_turns.proofs.Turning.{turns}
+use Rattle.campl_parts.specs.declared.entry.Entry.{Entry}
 use Rattle.campl_parts.specs.Tables.{procs}
 use Rattle.campl_parts.specs.Views.{entry_of, proc_of}
 use Rattle.campl_steps.specs.declared.config.Config.{Config}
@@ -196,3 +197,14 @@ module _ (source : Program) (code : Code) (n : Naming) (c : Configuration) (old 
 pub enabled : (source : Program) (code : Code) (n : Naming) (c : Configuration) (old : Solo) → IsRun source code n c old → (p i : ℕ) → CanStep code (drawn old.config) (parts old.config) p i (Ok true) → IsEnabled (world_of source) c
 enabled source code n c old run p i (entry, m2, s) =
     (n.who p, may-reduce (world_of source) code n (parts old.config) c run.stands run.represents (drawn old.config) (fresh old.config) p s.process s.there i s.change s.changes)
+
+-- One after another
+
+module _ (source : Program) (code : Code) (n : Naming) (c : Configuration) (a b : Solo) (s : Stays source code n c a b) where
+  pub stays-on : (d : Solo) → Stays source code n c b d → Stays source code n c a d
+  stays-on d t = record { run = t.run; same = t.same ∙ s.same }
+
+  pub stepped-on : (d : Solo) (entry : Entry) → HasStepped source code n c b entry d → HasStepped source code n c a entry d
+  stepped-on d entry h =
+      let x = subst (λ m. (means : Means (world_of source) code n m c h.turn (entry_of entry) (parts d.config)) × IsRun source code means.naming means.next d) s.same (h.means, h.run) in
+      record { turn = h.turn; means = x.0; run = x.1; one = h.one }
