@@ -14,7 +14,7 @@ use Rattle.campl_parts.specs.Journal.{weight_of}
 use Rattle.campl_solo.specs.Solos.{told}
 use Rattle.campl_run.specs.declared.ended.Ended.{Ended}
 use Rattle.campl_run.specs.declared.ended.Ended.TheVariants as v
-use Rattle.campl_run.specs.declared.run.Ran.{Ran}
+use Rattle.campl_run.specs.declared.running.Ran.{Ran}
 
 abbrev pub ending_of : Ended → Ending
 ending_of v.Finished = e.Finished

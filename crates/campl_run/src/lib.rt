@@ -6,14 +6,14 @@
 //! let ran = run(alloc, &world, code, scripts, budget)?;
 //! ```
 //!
-//! In reading order: `ended`, how a run ends; `services`, the services of a source and their start; `run`, the run; `output`, what
+//! In reading order: `ended`, how a run ends; `services`, the services of a source and their start; `running`, the run; `output`, what
 //! it prints.
 #![tactic(auto)]
 
 mod ended;
-mod run;
+mod running;
 mod services;
 
 pub use ended::Ended;
-pub use run::{Ran, run};
+pub use running::{Ran, run};
 pub use services::services_of;

@@ -11,6 +11,5 @@ use std::alloc::{AllocError, Global};
 pub fn services_of(alloc: Global, world: &World) -> Result<Vec<ServiceName>, AllocError>
     ensures { IfOk result (λ names. names.items ≡ services_of (map view_decl world.now)) }
 {
-    let _ = (alloc, world);
     Err(AllocError)
 }

@@ -54,7 +54,6 @@ impl Solo {
             → map (λ s. s.serving) services.items ≡ servings_at_start (services_of (world_of source)) scripts
             → IfOk result (IsAtStart source (code_of program.now) scripts) }
     {
-        let _ = (alloc, program, number, services);
         Err(AllocError)
     }
 
@@ -68,7 +67,6 @@ impl Solo {
         ensures { (source : Source) (n : Naming) (c : Configuration) → IsRun source (code_of program.now) n c self.old
             → Steps source (code_of program.now) n c self.old self.new result }
     {
-        let _ = (alloc, program);
         Err(AllocError)
     }
 
@@ -89,7 +87,6 @@ impl Solo {
         ensures { (source : Source) (n : Naming) (c : Configuration) → IsRun source (code_of program.now) n c self.old
             → Ran source (code_of program.now) budget n c self.old self.new journal.old.entries journal.new.entries result }
     {
-        let _ = (alloc, program, journal, budget);
         Err(AllocError)
     }
 }

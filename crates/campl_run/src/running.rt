@@ -46,6 +46,5 @@ pub fn run(
     ensures { (source : Source) → IsAccepted source → map view_decl world.now ≡ world_of source → StandsFor (world_of source) (view_code code)
         → IfOk result (IsRunThrough source scripts budget) }
 {
-    let _ = (alloc, world, code, scripts, budget);
     Err(AllocError)
 }
