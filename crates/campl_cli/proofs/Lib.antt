@@ -6,5 +6,5 @@ pub mod OneAnswer
 pub mod Judging
 pub mod OneFault
 pub mod OneVerdict
-pub mod Running
+pub mod WholeRuns
 pub mod Readings

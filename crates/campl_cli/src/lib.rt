@@ -25,8 +25,8 @@ mod source;
 mod telling;
 
 pub use acceptance::{judge, judged, one_verdict};
-pub use code::code_of;
 pub use campl_run::Ended;
+pub use code::code_of;
 pub use command::campl;
 pub use fault::{Detail, FaultKind, SourceFault};
 pub use functions::judge_functions;

@@ -142,8 +142,9 @@ fn report_with(status: u8, performance: Performance) -> Report
     let Performance {
         journal,
         ended,
-        output: _,
+        output,
     } = performance;
+    drop(output);
     let steps = journal.weight();
     Report {
         status,

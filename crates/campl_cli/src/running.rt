@@ -39,8 +39,8 @@ pub fn run_file<F: Shelf>(
     shelf: &mut F,
 ) -> Result<Performance, Refusal>
     ensures { MatchResult result
-        (λ p. RunsFile (files F.holds F.faults shelf.old shelf.new) file.now (texts script) budget (report_of p) p.output.items)
-        (IsRefusedRun (files F.holds F.faults shelf.old shelf.new) file.now (texts script)) }
+        (λ p. RunsFile (files F.holds F.faults shelf.old shelf.new) file.now (texts script.entry) budget (report_of p) p.output.items)
+        (IsRefusedRun (files F.holds F.faults shelf.old shelf.new) file.now (texts script.entry)) }
 {
     match read_source(alloc, file, shelf) {
         Ok(text) => run_text(alloc, &text, script, budget, shelf),
@@ -57,8 +57,8 @@ fn run_text<F: Shelf>(
     shelf: &mut F,
 ) -> Result<Performance, Refusal>
     ensures { MatchResult result
-        (λ p. RunsText text.now (HasScripts (files F.holds F.faults shelf.old shelf.new) (texts script)) budget (report_of p) p.output.items)
-        (IsRefusedText text.now (IsRefusedScripts (files F.holds F.faults shelf.old shelf.new) (texts script))) }
+        (λ p. RunsText text.now (HasScripts (files F.holds F.faults shelf.old shelf.new) (texts script.entry)) budget (report_of p) p.output.items)
+        (IsRefusedText text.now (IsRefusedScripts (files F.holds F.faults shelf.old shelf.new) (texts script.entry))) }
 {
     let world = match world_of_text(alloc, text) {
         Ok(world) => world,
@@ -77,8 +77,8 @@ fn run_world<F: Shelf>(
 ) -> Result<Performance, Refusal>
     ensures { (tree : Program) → IsAccepted (view_program tree) → map view_decl world.now ≡ world_of (view_program tree)
         → MatchResult result
-            (λ p. RunsTree tree (HasScripts (files F.holds F.faults shelf.old shelf.new) (texts script)) budget (report_of p) p.output.items)
-            (IsRefusedScripts (files F.holds F.faults shelf.old shelf.new) (texts script) (heading_of tree)) }
+        (λ p. RunsTree tree (HasScripts (files F.holds F.faults shelf.old shelf.new) (texts script.entry)) budget (report_of p) p.output.items)
+        (IsRefusedScripts (files F.holds F.faults shelf.old shelf.new) (texts script.entry) (heading_of tree)) }
 {
     let scripts = match scripts_for(alloc, world, script, shelf) {
         Ok(scripts) => scripts,

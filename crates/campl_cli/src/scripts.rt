@@ -30,8 +30,8 @@ pub fn scripts_for<F: Shelf>(
     shelf: &mut F,
 ) -> Result<Scripts, Refusal>
     ensures scripts { MatchResult result
-        (HasScripts (files F.holds F.faults shelf.old shelf.new) (texts script) (services_of (map view_decl world.now)))
-        (IsRefusedScripts (files F.holds F.faults shelf.old shelf.new) (texts script) (services_of (map view_decl world.now))) }
+        (HasScripts (files F.holds F.faults shelf.old shelf.new) (texts script.entry) (services_of (map view_decl world.now)))
+        (IsRefusedScripts (files F.holds F.faults shelf.old shelf.new) (texts script.entry) (services_of (map view_decl world.now))) }
     ensures each { IfOk result (λ scripts. length scripts ≡ length (services_of (map view_decl world.now))) }
 {
     match script {

@@ -74,10 +74,8 @@ fn made_line(alloc: Global, refusal: &Refusal) -> Result<String, AllocError>
         Refusal::NotUtf8 { at } => format!(in alloc; "campl: source isn't UTF-8 at byte {at}\n"),
         Refusal::Source(fault) => line_of_fault(alloc, fault),
         Refusal::Script(why) => line_of_script(alloc, why),
-        Refusal::BadCommandLine
-        | Refusal::TooLong
-        | Refusal::ReadFault
-        | Refusal::OutOfMemory => unreachable!(),
+        Refusal::BadCommandLine | Refusal::TooLong | Refusal::ReadFault | Refusal::OutOfMemory =>
+            unreachable!(),
     }
 }
 

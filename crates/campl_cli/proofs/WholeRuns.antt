@@ -20,7 +20,7 @@ use Rattle.campl_laws.specs.Reached.{IsMet}
 use Rattle.campl_laws.proofs.All.{met-lawful}
 use Rattle.campl_parts.specs.Journal.{Recorded, weight_of}
 use Rattle.campl_run.specs.declared.ended.Ended.{Ended}
-use Rattle.campl_run.specs.declared.run.Ran.{Ran}
+use Rattle.campl_run.specs.declared.running.Ran.{Ran}
 use Rattle.campl_run.specs.Runs.{IsRunThrough, ending_of}
 use Rattle.campl_cli.specs.declared.performance.Performance.{Performance}
 use Rattle.campl_cli.specs.declared.report.Report.{Report}
@@ -76,14 +76,17 @@ abbrev reported : Recorded → Option Ended → Report
 reported journal ended = record { status = status_by ended; ended = ended; steps = weight_of journal.entries; journal = journal }
 
 -- the run with its line is that of the pipeline
-pub runs-generated : (stages : ℕ) (text : List ℕ) (before after : Performance) → text ≡ generated_source stages
-    → RunsText text HaveNoLines (generated_budget stages) (report_of before) before.output.items
+pub runs-generated : (stages budget : ℕ) (text : List ℕ) (before after : Performance) → text ≡ generated_source stages → budget ≡ generated_budget stages
+    → RunsText text HaveNoLines budget (report_of before) before.output.items
     → IsHeaded (generated_line stages) before after → RunsGenerated stages (report_of after) after.output.items
-runs-generated stages text before after is runs headed =
+runs-generated stages budget text before after is so_long runs headed =
     let same : report_of before ≡ report_of after = ap₂ reported (sym headed.journal) (sym headed.ended) in
+    let of_source : RunsText (generated_source stages) HaveNoLines budget (report_of before) before.output.items =
+    subst (λ (t : List ℕ). RunsText t HaveNoLines budget (report_of before) before.output.items) is runs in
+    let in_budget : RunsText (generated_source stages) HaveNoLines (generated_budget stages) (report_of before) before.output.items =
+    subst (λ (n : ℕ). RunsText (generated_source stages) HaveNoLines n (report_of before) before.output.items) so_long of_source in
     record {
       transcript = before.output.items;
-      run = subst (λ (t : List ℕ). RunsText t HaveNoLines (generated_budget stages) (report_of after) before.output.items) is
-      (subst (λ (r : Report). RunsText text HaveNoLines (generated_budget stages) r before.output.items) same runs);
+      run = subst (λ (r : Report). RunsText (generated_source stages) HaveNoLines (generated_budget stages) r before.output.items) same in_budget;
       prints = headed.output;
     }
