@@ -1,17 +1,16 @@
 -- A run and one more step at its end.
-use Rattle.std.proofs.Common.{◌≡◌, ◌≤◌, ◌<◌, ◌⊎◌, inl, inr, ℕ, zero, suc, ◌+◌, List, [], ◌∷◌, ◌++◌, Result, map, refl, sym, ap, subst, ◌∙◌, arith, append-nil, append_assoc}
+use Rattle.std.proofs.Common.{◌≡◌, ℕ, zero, suc, List, [], ◌∷◌, ◌++◌, Result, refl, sym, ap, subst, ◌∙◌, arith, append-nil, append_assoc}
 use Rattle.std.proofs.lemmas.List.{map-append}
 use Rattle.std.proofs.lemmas.List.Sums.{sum_by-append, sum_by-cons}
 use Rattle.campl_machine.specs.Names.{Who}
 use Rattle.campl_machine.specs.Runs.{Run}
 use Rattle.campl_tree.specs.Plain.Decl.{Program}
 use Rattle.campl_types.specs.World.{World, world_of}
-use Rattle.campl_meaning.specs.Reductions.{Configuration, Event, reduce}
+use Rattle.campl_meaning.specs.Reductions.{Configuration, Event}
 use Rattle.campl_meaning.specs.Journals as journals
 use Rattle.campl_meaning.specs.Journals.{IsRunOf, IsWeighed, Says, Times}
 use Rattle.campl_meaning.specs.OneAtATime.{FirstReduces}
 use Rattle.campl_code.specs.Instructions.{Code}
-use Rattle.campl_cells.specs.Parts.{Parts}
 use Rattle.campl_cells.specs.Stands.{Naming, named_entry}
 use Rattle.campl_turns.specs.Turns.{told_entry, told_naming}
 use Rattle.campl_parts.specs.declared.entry.Entry.{Entry}
@@ -21,7 +20,7 @@ use Rattle.campl_steps.specs.Configs.{parts}
 use Rattle.campl_solo.specs.declared.solo.Solo.{Solo}
 use Rattle.campl_solo.specs.declared.solo.Stop.{Stop}
 use Rattle.std.specs.declared.alloc.AllocError.{AllocError}
-use Rattle.campl_solo.specs.Solos.{GoesOn, Grew, HasStepped, IsRun, Ran, Stays, Stopped, told}
+use Rattle.campl_solo.specs.Solos.{Grew, HasStepped, IsRun, Ran, Stays, Stopped, told}
 
 -- one more at the end of a run
 run-on : {C L : Type 0} (Red : C → L → C → Type 0) (n : ℕ) (a b c : C) (l : L) → Run Red n a b → Red b l c → Run Red (suc n) a c

@@ -1,11 +1,11 @@
-use Rattle.std.proofs.Common.{◌≡◌, ◌≤◌, ◌<◌, ◌-◌, ◌++◌, ◌∷◌, [], Ok, Err, suc, List, ap, sym, refl, subst, ◌∙◌, arith}
+use Rattle.std.proofs.Common.{◌≡◌, ◌<◌, ◌-◌, ◌++◌, ◌∷◌, [], Ok, Err, refl, arith}
 use Rattle.campl_eval.specs.View.{code_of}
 use Rattle.campl_meaning.specs.Ends.{IsEnabled}
 use Rattle.campl_types.specs.World.{world_of}
 use Rattle.campl_parts.specs.declared.entry.Entry.{Entry}
 use Rattle.campl_parts.specs.Journal.{weight_of}
 use Rattle.campl_solo.specs.declared.solo.Stop.TheVariants.{Rested, Spent}
-use Rattle.campl_solo.specs.Solos.{Grew, HasStepped, Rest, Stays}
+use Rattle.campl_solo.specs.Solos.{HasStepped, Rest, Stays}
 use Rattle.campl_solo.proofs.Running.{grew-none, stopped-at, weight-written, written-more}
 use Rattle.campl_solo.proofs.solo.Solo.run.Goals as goal
 

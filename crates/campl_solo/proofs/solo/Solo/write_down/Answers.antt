@@ -1,4 +1,4 @@
-use Rattle.std.proofs.Common.{◌≡◌, ◌<◌, ◌+◌, ◌^◌, ◌++◌, ◌∷◌, [], Ok, true, ap, subst, sym, ◌∙◌, arith}
+use Rattle.std.proofs.Common.{◌++◌, ◌∷◌, [], ap, subst, sym, ◌∙◌, arith}
 use Rattle.campl_eval.specs.View.{code_of}
 use Rattle.campl_parts.specs.Journal.{weight_of}
 use Rattle.campl_solo.specs.Solos.{HasStepped, Rest, Stays, Written}
