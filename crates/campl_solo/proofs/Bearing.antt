@@ -1,5 +1,5 @@
 -- The child of a step has the name and number that the tables want.
-use Rattle.std.proofs.Common.{◌≡◌, ◌≢◌, ◌≤◌, ◌<◌, ◌⊎◌, inl, inr, ℕ, ◌+◌, ◌/◌, ◌%◌, ◌^◌, true, List, [], ◌∷◌, ◌++◌, Option, Some, None, IsSome, length, option_map, refl, sym, ap, subst, ◌∙◌, arith}
+use Rattle.std.proofs.Common.{◌≡◌, ◌≢◌, ◌≤◌, ◌<◌, ◌⊎◌, inl, inr, ℕ, ◌+◌, ◌/◌, ◌^◌, true, [], ◌∷◌, ◌++◌, Option, Some, None, length, option_map, refl, sym, ap, subst, ◌∙◌, arith}
 use Rattle.std.proofs.lemmas.Option.{slice_get_past}
 use Rattle.campl_machine.specs.Names.{Path, Process, Service, Who}
 use Rattle.campl_types.specs.World.{World}
@@ -11,23 +11,23 @@ use Rattle.campl_code.specs.Instructions.{Code}
 use Rattle.campl_cells.specs.Parts.{Ended, Held, Life, Parts, Proc, Runs, Serves, far, near}
 use Rattle.campl_cells.specs.Wants as w
 use Rattle.campl_cells.specs.Wants.{Drawn, Start, Want, wanted}
-use Rattle.campl_cells.specs.Steps.{Steps, child_number}
+use Rattle.campl_cells.specs.Steps.{child_number}
 use Rattle.campl_cells.specs.Stands.{IsFresh, IsNode, Naming}
 use Rattle.campl_cells.specs.Runs.{Turn}
 use Rattle.campl_cells.proofs.Puts.{if-here, is-there}
 use Rattle.campl_cells_laws.specs.Sources.{Represents}
 use Rattle.campl_turns.specs.Meaning.{Means}
 use Rattle.campl_turns.proofs.Uses.{Tells, start_of, tells}
-use Rattle.campl_parts.specs.Tables.{procs, tips}
+use Rattle.campl_parts.specs.Tables.{tips}
 use Rattle.campl_parts.specs.Views.{entry_of, proc_of, tip_of}
 use Rattle.campl_steps.specs.declared.config.Config.{Config}
 use Rattle.campl_steps.specs.declared.made.Made.{Made}
-use Rattle.campl_steps.specs.Configs.{IsMade, drawn, more, parts, steps_of}
+use Rattle.campl_steps.specs.Configs.{IsMade, drawn, parts, steps_of}
 use Rattle.campl_steps.proofs.Able.{there-is}
 use Rattle.campl_steps.proofs.Swapped.{paired-ends}
 use Rattle.campl_order.specs.declared.order.Rank.{Rank}
 use Rattle.campl_order.specs.declared.schedule.Schedule.{Schedule}
-use Rattle.campl_order.specs.Orders.{IsChild, IsProcessRank, IsServiceRank, rank, service_depth}
+use Rattle.campl_order.specs.Orders.{IsProcessRank, IsServiceRank, rank, service_depth}
 use Rattle.campl_order.specs.Boards.{is_flagged}
 use Rattle.campl_solo.specs.Fits.{CanBear, Fits, MayBear}
 
@@ -108,8 +108,8 @@ module _ (w : World) (code : Code) (n : Naming) (old new : Config) (c : Configur
         child = (
           (λ above is-named. ap means.naming.who (sym here) ∙ (is-child.named own.0 own.1 above is-named ∙ ap (λ i. Process (above ++ record { step = i; place = 1 } ∷ [])) (sym (count ∙ steps-told ((parts new).process t.process) own.0 own.1)))),
           (λ i l e.
-            let other = there-is new.processes.items i (let m = is.processes in omega (arith, l, ranks, m)) in
-            is-child.alone i (is-there ((parts new).process i) other.0 other.1) (λ q. let f : ⊥ = omega (arith, q, here, l) in f) (e ∙ ap means.naming.who (sym here))),
+              let other = there-is new.processes.items i (let m = is.processes in omega (arith, l, ranks, m)) in
+              is-child.alone i (is-there ((parts new).process i) other.0 other.1) (λ q. let f : ⊥ = omega (arith, q, here, l) in f) (e ∙ ap means.naming.who (sym here))),
         );
       }
 

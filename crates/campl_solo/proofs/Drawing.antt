@@ -1,5 +1,5 @@
 -- Whether one rests, and on which ends it waits, doesn't depend on what is drawn, nor on more branches than it has.
-use Rattle.std.proofs.Common.{◌≡◌, ◌≤◌, ◌<◌, ◌⊎◌, inl, inr, ℕ, true, false, List, [], ◌∷◌, Option, Some, None, slice_get, refl, sym, ap, subst, ◌∙◌, arith}
+use Rattle.std.proofs.Common.{◌≡◌, ◌≤◌, ◌<◌, ◌⊎◌, inl, inr, ℕ, List, Option, Some, None, slice_get, refl, sym, ap, subst, ◌∙◌, arith}
 use Rattle.std.specs.Prelude.{nat_lt}
 use Rattle.campl_value.specs.Tree.{Tree}
 use Rattle.campl_code.specs.Instructions.{Block, Code, Instr, blocks}

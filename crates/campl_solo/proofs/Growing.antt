@@ -1,10 +1,9 @@
 -- Behind a step the tables fit, but for the ends where something has changed.
-use Rattle.std.proofs.Common.{◌≡◌, ◌≢◌, ◌≤◌, ◌<◌, ◌⊎◌, inl, inr, ℕ, ◌+◌, ◌++◌, Bool, true, false, List, [], ◌∷◌, Option, Some, None, IsSome, IfSome, length, set, slice_get, option_map, refl, sym, ap, subst, ◌∙◌, arith, get_or-set_other, get_or-set_same, length-append, true≢false}
+use Rattle.std.proofs.Common.{◌≡◌, ◌≢◌, ◌<◌, inl, inr, ℕ, ◌+◌, ◌++◌, Bool, true, false, List, [], ◌∷◌, Option, Some, None, IsSome, length, set, option_map, refl, sym, ap, subst, ◌∙◌, arith, get_or-set_other, get_or-set_same, length-append, true≢false}
 use Rattle.std.proofs.lemmas.List.{get_or_append_left}
 use Rattle.std.proofs.lemmas.Option.{slice_get_past}
-use Rattle.campl_machine.specs.Names.{Who}
 use Rattle.campl_code.specs.Instructions.{Code}
-use Rattle.campl_cells.specs.Parts.{Parts, Proc, Tip}
+use Rattle.campl_cells.specs.Parts.{Parts, Tip}
 use Rattle.campl_cells.specs.Wants as w
 use Rattle.campl_cells.specs.Wants.{Drawn, Want, wanted}
 use Rattle.campl_cells.specs.Stands.{Grows, IsEnd, LifeWithin, Naming, Wired}
@@ -27,7 +26,6 @@ use Rattle.campl_order.specs.Waiting.{IsAmong, waiter}
 use Rattle.campl_order.proofs.Alike.{scheduled-alike}
 use Rattle.campl_solo.specs.Fits.{Fits, Grown, MayBear, flags_borne, nobody}
 use Rattle.campl_solo.proofs.Drawing.{below}
-use Rattle.campl_solo.proofs.Waking.{flagged-within}
 
 -- Ends that one waits on are there
 

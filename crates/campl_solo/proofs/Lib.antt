@@ -4,6 +4,7 @@ pub mod Flags
 pub mod Growing
 pub mod Resting
 pub mod Running
+pub mod Starting
 pub mod Stepping
 pub mod Trying
 pub mod Waking

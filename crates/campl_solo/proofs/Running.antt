@@ -1,17 +1,16 @@
 -- A run and one more step at its end.
-use Rattle.std.proofs.Common.{◌≡◌, ◌≤◌, ◌<◌, ◌⊎◌, inl, inr, ℕ, zero, suc, ◌+◌, List, [], ◌∷◌, ◌++◌, map, refl, sym, ap, subst, ◌∙◌, arith, append-nil, append_assoc}
+use Rattle.std.proofs.Common.{◌≡◌, ℕ, zero, suc, List, [], ◌∷◌, ◌++◌, Result, refl, sym, ap, subst, ◌∙◌, arith, append-nil, append_assoc}
 use Rattle.std.proofs.lemmas.List.{map-append}
 use Rattle.std.proofs.lemmas.List.Sums.{sum_by-append, sum_by-cons}
 use Rattle.campl_machine.specs.Names.{Who}
 use Rattle.campl_machine.specs.Runs.{Run}
 use Rattle.campl_tree.specs.Plain.Decl.{Program}
 use Rattle.campl_types.specs.World.{World, world_of}
-use Rattle.campl_meaning.specs.Reductions.{Configuration, Event, reduce}
+use Rattle.campl_meaning.specs.Reductions.{Configuration, Event}
 use Rattle.campl_meaning.specs.Journals as journals
 use Rattle.campl_meaning.specs.Journals.{IsRunOf, IsWeighed, Says, Times}
 use Rattle.campl_meaning.specs.OneAtATime.{FirstReduces}
 use Rattle.campl_code.specs.Instructions.{Code}
-use Rattle.campl_cells.specs.Parts.{Parts}
 use Rattle.campl_cells.specs.Stands.{Naming, named_entry}
 use Rattle.campl_turns.specs.Turns.{told_entry, told_naming}
 use Rattle.campl_parts.specs.declared.entry.Entry.{Entry}
@@ -19,7 +18,9 @@ use Rattle.campl_parts.specs.Journal.{weight_of}
 use Rattle.campl_parts.specs.Views.{entry_of}
 use Rattle.campl_steps.specs.Configs.{parts}
 use Rattle.campl_solo.specs.declared.solo.Solo.{Solo}
-use Rattle.campl_solo.specs.Solos.{GoesOn, Grew, HasStepped, IsRun, Stays, told}
+use Rattle.campl_solo.specs.declared.solo.Stop.{Stop}
+use Rattle.std.specs.declared.alloc.AllocError.{AllocError}
+use Rattle.campl_solo.specs.Solos.{Grew, HasStepped, IsRun, Ran, Stays, Stopped, told}
 
 -- one more at the end of a run
 run-on : {C L : Type 0} (Red : C → L → C → Type 0) (n : ℕ) (a b c : C) (l : L) → Run Red n a b → Red b l c → Run Red (suc n) a c
@@ -35,11 +36,14 @@ told-on w n c (x ∷ entries) m b entry who event next d (who2, event2, next2, b
     (who2, event2, next2, b2, weighed2, says2, times2, told-on w next2 b2 entries m b entry who event next d more weighed says times)
 
 -- the weight of one more entry
-pub weight-on : (entries : List Entry) (entry : Entry) → entry.weight ≡ 1 → weight_of (entries ++ entry ∷ []) ≡ suc (weight_of entries)
+weight-on : (entries : List Entry) (entry : Entry) → entry.weight ≡ 1 → weight_of (entries ++ entry ∷ []) ≡ suc (weight_of entries)
 weight-on entries entry one =
     let a = sum_by-append (λ (e : Entry). e.weight) entries (entry ∷ []) in
     let b = sum_by-cons (λ (e : Entry). e.weight) entry [] in
     omega (arith, a, b, one)
+
+pub weight-written : (entries after : List Entry) (entry : Entry) → after ≡ entries ++ entry ∷ [] → entry.weight ≡ 1 → weight_of after ≡ suc (weight_of entries)
+weight-written entries after entry e one = ap weight_of e ∙ weight-on entries entry one
 
 module _ (source : Program) (code : Code) (n : Naming) (c : Configuration) (old : Solo) where
   abbrev w : World
@@ -54,7 +58,7 @@ module _ (source : Program) (code : Code) (n : Naming) (c : Configuration) (old 
   }
 
   -- one more
-  pub grew-more : (mid new : Solo) (before during : List Entry) (entry : Entry) → (g : Grew source code n c old mid before during) → HasStepped source code g.goes.naming g.goes.last mid entry new →
+  grew-more : (mid new : Solo) (before during : List Entry) (entry : Entry) → (g : Grew source code n c old mid before during) → HasStepped source code g.goes.naming g.goes.last mid entry new →
       Grew source code n c old new before (during ++ entry ∷ [])
   grew-more mid new before during entry g s = record {
     entries = g.entries ++ entry ∷ [];
@@ -72,8 +76,12 @@ module _ (source : Program) (code : Code) (n : Naming) (c : Configuration) (old 
     };
   }
 
+  pub written-more : (mid new : Solo) (before during after : List Entry) (entry : Entry) → (g : Grew source code n c old mid before during) → after ≡ during ++ entry ∷ [] → HasStepped source code g.goes.naming g.goes.last mid entry new →
+      Grew source code n c old new before after
+  written-more mid new before during after entry g e s = subst (λ l. Grew source code n c old new before l) (sym e) (grew-more mid new before during entry g s)
+
   -- where it stands where it stood
-  pub grew-stays : (mid new : Solo) (before during : List Entry) → (g : Grew source code n c old mid before during) → Stays source code g.goes.naming g.goes.last mid new → Grew source code n c old new before during
+  abbrev grew-stays : (mid new : Solo) (before during : List Entry) → (g : Grew source code n c old mid before during) → Stays source code g.goes.naming g.goes.last mid new → Grew source code n c old new before during
   grew-stays mid new before during g s = record {
     entries = g.entries;
     appended = g.appended;
@@ -85,3 +93,10 @@ module _ (source : Program) (code : Code) (n : Naming) (c : Configuration) (old 
       is = s.run;
     };
   }
+
+  -- how it stopped
+  pub stopped-at : (mid new : Solo) (before during after : List Entry) (budget : ℕ) (result : Result Stop AllocError) → (g : Grew source code n c old mid before during) → after ≡ during → Stays source code g.goes.naming g.goes.last mid new →
+      Stopped source code (weight_of during) budget g.goes.last new result → Ran source code budget n c old new before after result
+  stopped-at mid new before during after budget result g e s stopped =
+      let h = grew-stays mid new before during g s in
+      subst (λ l. Ran source code budget n c old new before l result) (sym e) (record { entries = h.entries; appended = h.appended; goes = h.goes; stopped = stopped })

@@ -1,5 +1,5 @@
 -- A run stands where it stood, or the first of its flagged has made a step.
-use Rattle.std.proofs.Common.{◌≡◌, ◌≢◌, ◌≤◌, ◌<◌, ◌⊎◌, inl, inr, ℕ, suc, Bool, true, false, List, [], Option, Some, None, IsSome, Ok, length, set, option_map, refl, sym, ap, subst, ◌∙◌, arith, true≢false}
+use Rattle.std.proofs.Common.{◌≡◌, ◌≤◌, ◌<◌, inl, inr, ℕ, suc, true, false, List, [], Option, None, IsSome, Ok, length, set, option_map, refl, sym, ap, subst, ◌∙◌, arith, true≢false}
 use Rattle.std.proofs.lemmas.Option.{slice_get_past}
 use Rattle.campl_machine.specs.Names.{Service, Who}
 use Rattle.campl_tree.specs.Plain.Decl.{Program}
@@ -8,14 +8,14 @@ use Rattle.campl_types.specs.Run.{services_of}
 use Rattle.campl_meaning.specs.Reductions.{Configuration}
 use Rattle.campl_meaning.specs.Ends.{IsEnabled}
 use Rattle.campl_code.specs.Instructions.{Code}
-use Rattle.campl_cells.specs.Parts.{Parts, Proc}
-use Rattle.campl_cells.specs.Steps.{IsStill, Steps, peopled}
+use Rattle.campl_cells.specs.Parts.{Parts}
+use Rattle.campl_cells.specs.Steps.{IsStill, peopled}
 use Rattle.campl_cells.specs.Stands.{Naming, Wired, named_entry}
 use Rattle.campl_cells.specs.Runs.{Turn}
 use Rattle.campl_cells.proofs.Puts.{is-there, split, written-keeps}
 use Rattle.campl_cells_laws.specs.Sources.{Represents}
 use Rattle.campl_turns.specs.Meaning.{Means}
-use Rattle.campl_turns.specs.Turns.{IsFirstTurn, IsLonely, Rests, WaitsOn}
+use Rattle.campl_turns.specs.Turns.{IsFirstTurn, Rests, WaitsOn}
 use Rattle.campl_turns.proofs.Alone.{lonely}
 use Rattle.campl_turns.proofs.Along.{may-reduce, met-on}
 use Rattle.campl_turns.proofs.Turning.{turns}
@@ -24,9 +24,8 @@ use Rattle.campl_parts.specs.Tables.{procs}
 use Rattle.campl_parts.specs.Views.{entry_of, proc_of}
 use Rattle.campl_steps.specs.declared.config.Config.{Config}
 use Rattle.campl_steps.specs.declared.made.Made.{Made}
-use Rattle.campl_steps.specs.Configs.{CanStep, IsMade, IsSame, changed_ends, drawn, parts, steps_of}
+use Rattle.campl_steps.specs.Configs.{CanStep, IsSame, changed_ends, drawn, parts, steps_of}
 use Rattle.campl_steps.proofs.Able.{there-is}
-use Rattle.campl_order.specs.declared.order.Order.{Order}
 use Rattle.campl_order.specs.declared.order.Rank.{Rank}
 use Rattle.campl_order.specs.declared.schedule.Schedule.{Schedule}
 use Rattle.campl_order.specs.Boards.{IsFirstFlagged, earlier, is_flagged}
@@ -55,7 +54,7 @@ abbrev pub FitsAs : Code → Naming → Config → Schedule → Type 0
 FitsAs code n config s = Fits code (parts config) n.who (length config.processes.items) (length config.ends.items) [] s
 
 -- tables with more room
-pub roomier : (code : Code) (n : Naming) (config : Config) (s s2 : Schedule) → FitsAs code n config s → (IsScheduled n.who s → IsScheduled n.who s2) → s2.order.ranks.items ≡ s.order.ranks.items →
+roomier : (code : Code) (n : Naming) (config : Config) (s s2 : Schedule) → FitsAs code n config s → (IsScheduled n.who s → IsScheduled n.who s2) → s2.order.ranks.items ≡ s.order.ranks.items →
     s2.waiting.items ≡ s.waiting.items → ((i : ℕ) → is_flagged s2.board.flags.items i ≡ is_flagged s.board.flags.items i) → FitsAs code n config s2
 roomier code n config s s2 fits scheduled ranks waiting flags = record {
   scheduled = scheduled fits.scheduled;
@@ -92,6 +91,11 @@ module _ (source : Program) (code : Code) (n : Naming) (c : Configuration) (old 
     };
     same = same.parts;
   }
+
+  -- the tables with more room
+  pub roomy : (s : Schedule) → (IsScheduled n.who old.schedule → IsScheduled n.who s) → s.order.ranks.items ≡ old.schedule.order.ranks.items → s.waiting.items ≡ old.schedule.waiting.items →
+      ((i : ℕ) → is_flagged s.board.flags.items i ≡ is_flagged old.schedule.board.flags.items i) → FitsAs code n old.config s
+  roomy s = roomier code n old.config old.schedule s (fits-of code n [] old run.tables)
 
   pub wired : Wired (parts old.config)
   wired = run.represents.by_number.wired

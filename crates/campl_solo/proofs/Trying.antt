@@ -1,14 +1,13 @@
 -- Branch by branch: whoever has no step as one is asked again, and nothing has changed.
-use Rattle.std.proofs.Common.{◌≡◌, ◌<◌, inl, inr, ℕ, suc, ◌+◌, Option, Some, None, length, refl, sym, ap, subst, ◌∙◌, arith}
+use Rattle.std.proofs.Common.{◌<◌, inl, inr, ℕ, ◌+◌, sym, ap, subst, ◌∙◌, arith}
 use Rattle.campl_code.specs.Instructions.{Code}
 use Rattle.campl_cells.specs.Parts.{Parts}
 use Rattle.campl_cells.specs.Steps.{IsStill, Steps}
-use Rattle.campl_cells.specs.Wants.{Drawn}
 use Rattle.campl_cells.proofs.Puts.{same}
 use Rattle.campl_parts.specs.Views.{entry_of}
 use Rattle.campl_steps.specs.declared.config.Config.{Config}
 use Rattle.campl_steps.specs.declared.made.Made.{Made}
-use Rattle.campl_steps.specs.Configs.{IsMade, IsSame, changed_ends, drawn, more, parts}
+use Rattle.campl_steps.specs.Configs.{IsMade, IsSame, drawn, more, parts}
 use Rattle.campl_steps.proofs.Since.{same-drawn}
 use Rattle.campl_solo.specs.Asking.{HasTurned}
 

@@ -1,5 +1,5 @@
 -- Whoever waits on an end is flagged when something changes there.
-use Rattle.std.proofs.Common.{◌≡◌, ◌≢◌, ◌≤◌, ◌<◌, ◌⊎◌, inl, inr, ℕ, zero, suc, Bool, true, false, List, [], ◌∷◌, Option, Some, None, length, set, refl, sym, ap, subst, ◌∙◌, arith, get_or-set_other, get_or-set_same, length-set, true≢false}
+use Rattle.std.proofs.Common.{◌≡◌, ◌<◌, inl, inr, ℕ, zero, suc, Bool, true, false, List, [], ◌∷◌, Option, Some, None, length, set, refl, sym, ap, subst, ◌∙◌, arith, get_or-set_other, get_or-set_same, length-set, true≢false}
 use Rattle.campl_machine.specs.Names.{Who}
 use Rattle.campl_code.specs.Instructions.{Code}
 use Rattle.campl_cells.specs.Parts.{Parts}

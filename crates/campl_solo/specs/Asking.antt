@@ -1,5 +1,5 @@
 -- One is asked for its next step, by its branches in order.
-use Rattle.std.specs.Prelude.{◌≡◌, ◌<◌, ℕ, suc, Bool, true, false, List, [], ◌∷◌, Option, Some, None, Result, Ok, Err}
+use Rattle.std.specs.Prelude.{◌<◌, ℕ, suc, Bool, true, false, List, [], ◌∷◌, Option, Some, None, Result, Ok, Err}
 use Rattle.std.specs.declared.alloc.AllocError.{AllocError}
 use Rattle.campl_tree.specs.Plain.Decl.{Program}
 use Rattle.campl_types.specs.World.{world_of}
@@ -16,7 +16,7 @@ use Rattle.campl_steps.specs.declared.made.Made.{Made}
 use Rattle.campl_steps.specs.Configs.{CanStep, IsMade, IsSame, drawn, parts}
 use Rattle.campl_order.specs.Boards.{IsFirstFlagged, earlier}
 use Rattle.campl_solo.specs.declared.solo.Solo.{Solo}
-use Rattle.campl_solo.specs.Solos.{HasStepped, IsRun, Rest, Stays}
+use Rattle.campl_solo.specs.Solos.{HasStepped, Rest, Stays}
 
 -- how many flags are up
 abbrev pub flags_up : List Bool → ℕ

@@ -1,4 +1,4 @@
-use Rattle.std.proofs.Common.{◌≡◌, ℕ, ◌+◌, suc, ap, subst, ◌∙◌, false, set, arith, List, Bool, Option}
+use Rattle.std.proofs.Common.{suc, ap, subst, ◌∙◌, arith}
 use Rattle.campl_cells.specs.Wants.{Drawn}
 use Rattle.campl_eval.specs.View.{code_of}
 use Rattle.campl_steps.specs.Configs.{parts}

@@ -1,4 +1,4 @@
-use Rattle.std.proofs.Common.{List, [], ◌∷◌}
+use Rattle.std.proofs.Common.{[], ◌∷◌}
 use Rattle.campl_solo.specs.Fits.{Fits}
 use Rattle.campl_solo.proofs.tables.wake_all.Goals as goal
 

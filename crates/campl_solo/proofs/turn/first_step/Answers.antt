@@ -1,4 +1,3 @@
-use Rattle.std.proofs.Common.{ℕ}
 use Rattle.campl_cells.specs.Steps.{IsStill}
 use Rattle.campl_eval.specs.View.{code_of}
 use Rattle.campl_steps.specs.Configs.{IsMade, IsSame, drawn, parts}

@@ -1,9 +1,9 @@
-use Rattle.std.proofs.Common.{◌<◌, ◌≡◌, ℕ, true, refl, Ok, subst, sym, ◌∙◌}
+use Rattle.std.proofs.Common.{◌<◌, ℕ, refl}
 use Rattle.campl_cells.specs.Steps.{IsStill}
 use Rattle.campl_eval.specs.View.{code_of}
-use Rattle.campl_steps.specs.Configs.{CanStep, IsSame, drawn, parts}
+use Rattle.campl_steps.specs.Configs.{IsSame, drawn, parts}
 use Rattle.campl_solo.specs.Asking.{HasTurned}
-use Rattle.campl_solo.proofs.Stepping.{FitsAs, bearing, enabled, fits-of, is-same, lies-down, roomier, stays, stepped}
+use Rattle.campl_solo.proofs.Stepping.{bearing, is-same, lies-down, roomy, stays, stepped}
 use Rattle.campl_solo.proofs.solo.Solo.ask.Goals as goal
 
 pub returns-in-Err : goal.returns-in-Err
@@ -11,7 +11,7 @@ returns-in-Err c source n x run first =
     let code = code_of c.args.program.now in
     let old = c.args.self.now in
     let e = c.make_room.ensures in
-    let fits = roomier code n old.config old.schedule c.make_room.new.self (fits-of code n _ old run.tables) (e.scheduled n.who) e.order e.waiting e.flags in
+    let fits = roomy source code n x old run c.make_room.new.self (e.scheduled n.who) e.order e.waiting e.flags in
     stays source code n x old run (record { config = old.config; schedule = c.make_room.new.self }) (is-same old.config) fits
 
 pub returns-in-Err-branches : goal.returns-in-Err-branches
@@ -19,7 +19,7 @@ returns-in-Err-branches c source n x run first =
     let code = code_of c.args.program.now in
     let old = c.args.self.now in
     let e = c.make_room.ensures in
-    let fits = roomier code n old.config old.schedule c.make_room.new.self (fits-of code n _ old run.tables) (e.scheduled n.who) e.order e.waiting e.flags in
+    let fits = roomy source code n x old run c.make_room.new.self (e.scheduled n.who) e.order e.waiting e.flags in
     stays source code n x old run (record { config = old.config; schedule = c.make_room.new.self }) (is-same old.config) fits
 
 pub rest-requires-clause-scheduled : goal.rest-requires-clause-scheduled
@@ -33,7 +33,7 @@ grow-requires-clause-scheduled c =
     let code = code_of c.args.program.now in
     let old = c.args.self.now in
     let e = c.make_room.ensures in
-    let fits = roomier code n old.config old.schedule c.make_room.new.self (fits-of code n _ old run.tables) (e.scheduled n.who) e.order e.waiting e.flags in
+    let fits = roomy source code n x old run c.make_room.new.self (e.scheduled n.who) e.order e.waiting e.flags in
     let made = c.in-Ok-Some.made in
     let turned : HasTurned code c.args.number old.config made c.first_step.new.config = rw c.in-Ok-Some.field-0-is at c.in-Ok-Some.ensures in
     bearing source code n x old run c.args.number first c.make_room.new.self fits e.flags c.in-Ok.ensures.room c.first_step.new.config made turned c.steps-born.result c.steps-born.ensures
@@ -44,7 +44,7 @@ wake_all-requires c =
     let code = code_of c.args.program.now in
     let old = c.args.self.now in
     let e = c.make_room.ensures in
-    let fits = roomier code n old.config old.schedule c.make_room.new.self (fits-of code n _ old run.tables) (e.scheduled n.who) e.order e.waiting e.flags in
+    let fits = roomy source code n x old run c.make_room.new.self (e.scheduled n.who) e.order e.waiting e.flags in
     let made = c.in-Ok-Some.made in
     let turned : HasTurned code c.args.number old.config made c.first_step.new.config = rw c.in-Ok-Some.field-0-is at c.in-Ok-Some.ensures in
     let b = bearing source code n x old run c.args.number first c.make_room.new.self fits e.flags c.in-Ok.ensures.room c.first_step.new.config made turned c.steps-born.result c.steps-born.ensures in
@@ -55,7 +55,7 @@ returns-in-Ok-None c source n x run first =
     let code = code_of c.args.program.now in
     let old = c.args.self.now in
     let e = c.make_room.ensures in
-    let fits = roomier code n old.config old.schedule c.make_room.new.self (fits-of code n _ old run.tables) (e.scheduled n.who) e.order e.waiting e.flags in
+    let fits = roomy source code n x old run c.make_room.new.self (e.scheduled n.who) e.order e.waiting e.flags in
     let h : ((i : ℕ) → i < c.in-Ok-branches.count → IsStill code (drawn old.config) (parts old.config) c.args.number i) × IsSame old.config c.first_step.new.config = rw c.in-Ok-None.field-0-is at c.in-Ok-None.ensures in
     let r = c.rest.ensures in
     lies-down source code n x old run c.args.number first c.make_room.new.self fits e.flags (record { config = c.first_step.new.config; schedule = c.rest.new.schedule }) h.1
@@ -66,7 +66,7 @@ returns-in-Ok-Some c source n x run first =
     let code = code_of c.args.program.now in
     let old = c.args.self.now in
     let e = c.make_room.ensures in
-    let fits = roomier code n old.config old.schedule c.make_room.new.self (fits-of code n _ old run.tables) (e.scheduled n.who) e.order e.waiting e.flags in
+    let fits = roomy source code n x old run c.make_room.new.self (e.scheduled n.who) e.order e.waiting e.flags in
     let made = c.in-Ok-Some.made in
     let turned : HasTurned code c.args.number old.config made c.first_step.new.config = rw c.in-Ok-Some.field-0-is at c.in-Ok-Some.ensures in
     stepped source code n x old run c.args.number first c.make_room.new.self fits e.flags c.in-Ok.ensures.room c.first_step.new.config made turned c.steps-born.result c.steps-born.ensures
@@ -77,5 +77,5 @@ returns-in-Err-first_step c source n x run first =
     let code = code_of c.args.program.now in
     let old = c.args.self.now in
     let e = c.make_room.ensures in
-    let fits = roomier code n old.config old.schedule c.make_room.new.self (fits-of code n _ old run.tables) (e.scheduled n.who) e.order e.waiting e.flags in
+    let fits = roomy source code n x old run c.make_room.new.self (e.scheduled n.who) e.order e.waiting e.flags in
     stays source code n x old run (record { config = c.first_step.new.config; schedule = c.make_room.new.self }) c.in-Err-first_step.ensures fits

@@ -1,4 +1,3 @@
-use Rattle.std.proofs.Common.{ℕ}
 use Rattle.campl_tree.specs.Plain.Decl.{Program}
 use Rattle.campl_meaning.specs.Reductions.{Configuration}
 use Rattle.campl_cells.specs.Stands.{Naming}

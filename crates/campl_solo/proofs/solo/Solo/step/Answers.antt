@@ -1,7 +1,5 @@
-use Rattle.std.proofs.Common.{◌≡◌, ◌<◌, Option, Some, None, sym, subst}
 use Rattle.campl_eval.specs.View.{code_of}
-use Rattle.campl_parts.specs.declared.entry.Entry.{Entry}
-use Rattle.campl_solo.specs.Asking.{Asked, LiesDown}
+use Rattle.campl_solo.specs.Asking.{LiesDown}
 use Rattle.campl_solo.specs.Solos.{HasStepped}
 use Rattle.campl_solo.proofs.Stepping.{all-rest, stays-on, stepped-on}
 use Rattle.campl_solo.proofs.solo.Solo.step.Goals as goal
