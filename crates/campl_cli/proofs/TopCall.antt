@@ -1,5 +1,5 @@
 -- The four ways in which the command ends.
-use Rattle.std.proofs.Common.{refl, ◌≡◌, ℕ, List, inl, inr, ap, sym, subst, ◌∙◌, Option, Some, None}
+use Rattle.std.proofs.Common.{ℕ, List, inl, inr, ap, sym, subst, ◌∙◌, Option, Some, None}
 use Rattle.campl_tree.specs.declared.service.ServiceName.{ServiceName}
 use Rattle.campl_tree.specs.Plain.Decl.{Program}
 use Rattle.campl_tree.specs.View.{view_program}

@@ -89,6 +89,10 @@ IsAcceptedAs text program = HasTree text program × IsAccepted (view_program pro
 abbrev pub IsAcceptedText : List ℕ → Type 0
 IsAcceptedText text = (program : Program) × IsAcceptedAs text program
 
+-- it is the world of an accepted source
+abbrev pub IsAcceptedWorld : World → Type 0
+IsAcceptedWorld world = (source : d.Program) × IsAccepted source × (world ≡ world_of source)
+
 -- the text is accepted, and this is its world
 abbrev pub IsWorldOf : List ℕ → World → Type 0
 IsWorldOf text world = (program : Program) × IsAcceptedAs text program × (world ≡ world_of (view_program program))

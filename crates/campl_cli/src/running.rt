@@ -11,7 +11,7 @@ ghost use Rattle.campl_pipeline.specs.Source.{generated_source};
 ghost use Rattle.campl_cli.specs.Performance.{report_of};
 ghost use Rattle.campl_cli.specs.Refusals.{files, IsRefusedRun, IsRefusedScripts, IsRefusedText};
 ghost use Rattle.campl_cli.specs.Runs.{HasRun, HasScripts, HaveNoLines, RunsFile, RunsGenerated, RunsText, RunsTree};
-ghost use Rattle.campl_cli.specs.Source.{IsRefusedFor, IsSourceFault, heading_of};
+ghost use Rattle.campl_cli.specs.Source.{IsAcceptedWorld, IsRefusedFor, IsSourceFault, heading_of};
 
 use crate::acceptance::world_of_text;
 use crate::performance::{Performance, headed, performed};
@@ -75,6 +75,7 @@ fn run_world<F: Shelf>(
     budget: u64,
     shelf: &mut F,
 ) -> Result<Performance, Refusal>
+    requires { IsAcceptedWorld (map view_decl world.now) }
     ensures { (tree : Program) → IsAccepted (view_program tree) → map view_decl world.now ≡ world_of (view_program tree)
         → MatchResult result
         (λ p. RunsTree tree (HasScripts (files F.holds F.faults shelf.old shelf.new) (texts script.entry)) budget (report_of p) p.output.items)
@@ -97,7 +98,8 @@ fn run_with(
     scripts: Scripts,
     budget: u64,
 ) -> Result<Performance, AllocError>
-    requires { length scripts ≡ length (services_of (map view_decl world.now)) }
+    requires scripts { length scripts ≡ length (services_of (map view_decl world.now)) }
+    requires accepted { IsAcceptedWorld (map view_decl world.now) }
     ensures { (source : Source) → IsAccepted source → map view_decl world.now ≡ world_of source
         → IfOk result (λ p. HasRun source scripts budget (report_of p) p.output.items) }
 {
@@ -149,6 +151,7 @@ fn run_alone(alloc: Global, text: &Text, budget: u64) -> Result<Performance, Ref
 
 // Runs a source without lines of scripts.
 fn run_world_alone(alloc: Global, world: &World, budget: u64) -> Result<Performance, AllocError>
+    requires { IsAcceptedWorld (map view_decl world.now) }
     ensures { (tree : Program) → IsAccepted (view_program tree) → map view_decl world.now ≡ world_of (view_program tree)
         → IfOk result (λ p. RunsTree tree HaveNoLines budget (report_of p) p.output.items) }
 {
