@@ -1,5 +1,5 @@
 -- A run and one more step at its end.
-use Rattle.std.proofs.Common.{◌≡◌, ℕ, zero, suc, List, [], ◌∷◌, ◌++◌, Result, refl, sym, ap, subst, ◌∙◌, arith, append-nil, append_assoc}
+use Rattle.std.proofs.Common.{◌≡◌, ◌≤◌, ℕ, zero, suc, List, [], ◌∷◌, ◌++◌, Result, refl, sym, ap, subst, ◌∙◌, arith, append-nil, append_assoc}
 use Rattle.std.proofs.lemmas.List.{map-append}
 use Rattle.std.proofs.lemmas.List.Sums.{sum_by-append, sum_by-cons}
 use Rattle.campl_machine.specs.Names.{Who}
@@ -95,8 +95,8 @@ module _ (source : Program) (code : Code) (n : Naming) (c : Configuration) (old 
   }
 
   -- how it stopped
-  pub stopped-at : (mid new : Solo) (before during after : List Entry) (budget : ℕ) (result : Result Stop AllocError) → (g : Grew source code n c old mid before during) → after ≡ during → Stays source code g.goes.naming g.goes.last mid new →
+  pub stopped-at : (mid new : Solo) (before during after : List Entry) (budget : ℕ) (result : Result Stop AllocError) → (g : Grew source code n c old mid before during) → after ≡ during → weight_of during ≤ budget → Stays source code g.goes.naming g.goes.last mid new →
       Stopped source code (weight_of during) budget g.goes.last new result → Ran source code budget n c old new before after result
-  stopped-at mid new before during after budget result g e s stopped =
+  stopped-at mid new before during after budget result g e inside s stopped =
       let h = grew-stays mid new before during g s in
-      subst (λ l. Ran source code budget n c old new before l result) (sym e) (record { entries = h.entries; appended = h.appended; goes = h.goes; stopped = stopped })
+      subst (λ l. Ran source code budget n c old new before l result) (sym e) (record { entries = h.entries; appended = h.appended; within = inside; goes = h.goes; stopped = stopped })

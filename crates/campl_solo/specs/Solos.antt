@@ -1,5 +1,5 @@
 -- The run of one at a time in memory.
-use Rattle.std.specs.Prelude.{◌≡◌, ◌<◌, ℕ, suc, Bool, true, false, List, [], ◌∷◌, ◌++◌, Option, Some, None, IsSome, Result, Ok, Err, length, map}
+use Rattle.std.specs.Prelude.{◌≡◌, ◌<◌, ◌≤◌, ℕ, suc, Bool, true, false, List, [], ◌∷◌, ◌++◌, Option, Some, None, IsSome, Result, Ok, Err, length, map}
 use Rattle.std.specs.declared.alloc.AllocError.{AllocError}
 use Rattle.campl_tree.specs.Plain.Decl.{Program}
 use Rattle.campl_machine.specs.Names.{Service}
@@ -111,5 +111,6 @@ Stopped source code total budget last new (Err error) = Unit {0}
 pub record Ran (source : Program) (code : Code) (budget : ℕ) (n : Naming) (c : Configuration) (old new : Solo) (before after : List Entry) (result : Result Stop AllocError) : Type 0 where
   pub entries : List Entry
   pub appended : after ≡ before ++ entries
+  pub within : weight_of after ≤ budget
   pub goes : GoesOn source code n c (parts old.config) entries new
   pub stopped : Stopped source code (weight_of after) budget goes.last new result

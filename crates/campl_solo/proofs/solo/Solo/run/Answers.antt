@@ -58,14 +58,14 @@ returns-in-Ok-false c source n x run =
     let new = c.write_down.new.self in
     let h : (c.write_down.new.journal.entries ≡ c.loop-self.journal.entries) × Stays source code g.goes.naming g.goes.last c.loop-self.self new × Rest code new =
     rw c.in-Ok-false.field-0-test at c.in-Ok-false.ensures source g.goes.naming g.goes.last g.goes.is in
-    stopped-at source code n x c.args.self.now c.loop-self.self new c.args.journal.now.entries c.loop-self.journal.entries c.write_down.new.journal.entries c.args.budget (Ok Rested) g h.0 h.1 h.2
+    stopped-at source code n x c.args.self.now c.loop-self.self new c.args.journal.now.entries c.loop-self.journal.entries c.write_down.new.journal.entries c.args.budget (Ok Rested) g h.0 c.loop-self.invariant.within h.1 h.2
 
 pub returns-in-Err : goal.returns-in-Err
 returns-in-Err c source n x run =
     let code = code_of c.args.program.now in
     let g = c.loop-self.invariant.grew source n x run in
     let h = c.in-Err.ensures source g.goes.naming g.goes.last g.goes.is in
-    stopped-at source code n x c.args.self.now c.loop-self.self c.write_down.new.self c.args.journal.now.entries c.loop-self.journal.entries c.write_down.new.journal.entries c.args.budget (Err c.in-Err.error) g h.0 h.1 tt
+    stopped-at source code n x c.args.self.now c.loop-self.self c.write_down.new.self c.args.journal.now.entries c.loop-self.journal.entries c.write_down.new.journal.entries c.args.budget (Err c.in-Err.error) g h.0 c.loop-self.invariant.within h.1 tt
 
 pub has_step-requires : goal.has_step-requires
 has_step-requires c =
@@ -84,7 +84,7 @@ returns-in-Ok-true-has_step c source n x run =
     let is = c.weight.ensures in
     let within = c.loop-self.invariant.within in
     let spent : weight_of c.loop-self.journal.entries ≡ c.args.budget = omega (arith, more, is, within) in
-    stopped-at source code n x c.args.self.now c.loop-self.self new c.args.journal.now.entries c.loop-self.journal.entries c.loop-self.journal.entries c.args.budget (Ok Spent) g refl h.0 (spent, h.1)
+    stopped-at source code n x c.args.self.now c.loop-self.self new c.args.journal.now.entries c.loop-self.journal.entries c.loop-self.journal.entries c.args.budget (Ok Spent) g refl c.loop-self.invariant.within h.0 (spent, h.1)
 
 pub returns-in-Ok-false-has_step : goal.returns-in-Ok-false-has_step
 returns-in-Ok-false-has_step c source n x run =
@@ -93,11 +93,11 @@ returns-in-Ok-false-has_step c source n x run =
     let new = c.has_step.new.self in
     let h : Stays source code g.goes.naming g.goes.last c.loop-self.self new × Rest code new =
     rw c.in-Ok-false-has_step.field-0-test at c.in-Ok-false-has_step.ensures source g.goes.naming g.goes.last g.goes.is in
-    stopped-at source code n x c.args.self.now c.loop-self.self new c.args.journal.now.entries c.loop-self.journal.entries c.loop-self.journal.entries c.args.budget (Ok Rested) g refl h.0 h.1
+    stopped-at source code n x c.args.self.now c.loop-self.self new c.args.journal.now.entries c.loop-self.journal.entries c.loop-self.journal.entries c.args.budget (Ok Rested) g refl c.loop-self.invariant.within h.0 h.1
 
 pub returns-in-Err-has_step : goal.returns-in-Err-has_step
 returns-in-Err-has_step c source n x run =
     let code = code_of c.args.program.now in
     let g = c.loop-self.invariant.grew source n x run in
     let h = c.in-Err-has_step.ensures source g.goes.naming g.goes.last g.goes.is in
-    stopped-at source code n x c.args.self.now c.loop-self.self c.has_step.new.self c.args.journal.now.entries c.loop-self.journal.entries c.loop-self.journal.entries c.args.budget (Err c.in-Err-has_step.error) g refl h tt
+    stopped-at source code n x c.args.self.now c.loop-self.self c.has_step.new.self c.args.journal.now.entries c.loop-self.journal.entries c.loop-self.journal.entries c.args.budget (Err c.in-Err-has_step.error) g refl c.loop-self.invariant.within h tt
