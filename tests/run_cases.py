@@ -206,8 +206,14 @@ def written(case):
 # ---- The cases
 
 
+# A row whose tree is too deep for a usual stack: the program has one of its own, and tests/run_rows.py runs it there.
+DEEP = "9,000 additions"
+
+
 def row_cases():
     for row in rows():
+        if row.name == DEEP:
+            continue
         files = {"source": row.source} if row.script is None else {"source": row.source, "script": row.script}
         orders = [Order(" ".join(["run source", *options_of(row), "--workers", workers])) for workers in WORKERS]
         yield Case(row.name, files, orders)
