@@ -86,18 +86,20 @@ impl Machine {
         self.frame.operands.move_top(n, &mut frame.variables)?;
         frame.variables.pad(size)?;
         let caller = mem::replace(&mut self.frame, frame);
-        self.callers.push(caller)
+        self.callers.push(alloc, caller)
     }
 
     // Gives the top to the caller.
-    pub(crate) fn give_back(&mut self) -> Flow
+    pub(crate) fn give_back(&mut self, alloc: Global) -> Flow
         ensures { Leads (m.returns self.old.frame.operands (seens self.old.callers)) result (seen self.new.frame) (seens self.new.callers) }
     {
         let Some(value) = self.frame.operands.pop() else {
             return Flow::Faulty;
         };
-        let Some(caller) = self.callers.pop() else {
-            return Flow::Faulty;
+        let caller = match self.callers.pop(alloc) {
+            Err(_) => return Flow::OutOfMemory,
+            Ok(None) => return Flow::Faulty,
+            Ok(Some(caller)) => caller,
         };
         let gone = mem::replace(&mut self.frame, caller);
         if self.spare.keep(gone).is_err() {

@@ -14,6 +14,7 @@
 #![tactic(auto)]
 
 mod calls;
+mod chunk;
 mod eval;
 mod laws;
 mod machine;
