@@ -7,10 +7,9 @@ use crate::Frame;
 use crate::chunk::{Chunk, are_empty, copies, parts, share};
 use std::alloc::{AllocError, Global};
 use std::marker::Model;
-use std::mem;
 use std::sync::Arc;
 
-// So many frames may be topmost. A copy copies no more than these, and as soon as one more comes, all but `HALF` go below.
+// So many frames may be topmost, and a copy copies no more. Before one more comes, the lower `HALF` of them go below.
 const MOST: usize = 64;
 
 const HALF: usize = 32;
@@ -94,7 +93,7 @@ impl Stack {
     }
 }
 
-// All but the last of the topmost go below. An error means that memory is out.
+// The lower `HALF` of the topmost go below. An error means that memory is out.
 fn lower(
     alloc: Global,
     top: &mut Vec<Frame>,
@@ -103,8 +102,9 @@ fn lower(
     requires { HALF ≤ length top.old.items }
     ensures { OnOk result (reverse top.new.items ++ under below.new ≡ reverse top.old.items ++ under below.old) }
 {
-    let last = top.split_off(HALF)?;
-    let frames = mem::replace(top, last);
+    let kept = top.len() - HALF;
+    top.rotate_left(HALF);
+    let frames = top.split_off(kept)?;
     let chunk = Arc::new(alloc, Chunk::new(frames, below.take()))?;
     *below = Some(chunk);
     Ok(())
