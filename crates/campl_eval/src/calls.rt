@@ -8,6 +8,7 @@ ghost use Rattle.campl_eval.specs.View.{code_of, seen, seens};
 use crate::{Flow, Frame, Machine};
 use campl_instructions::Instr;
 use campl_program::Program;
+use campl_value::Value;
 use std::alloc::{AllocError, Global};
 use std::mem;
 
@@ -96,11 +97,30 @@ impl Machine {
         let Some(value) = self.frame.operands.pop() else {
             return Flow::Faulty;
         };
-        let caller = match self.callers.pop(alloc) {
-            Err(_) => return Flow::OutOfMemory,
-            Ok(None) => return Flow::Faulty,
-            Ok(Some(caller)) => caller,
-        };
+        match self.callers.pop_near() {
+            Some(caller) => self.resume(caller, value),
+            None => self.give_below(alloc, value),
+        }
+    }
+
+    // Gives a value to the caller, which may be one of those that copies share.
+    #[cold]
+    #[inline(never)]
+    fn give_below(&mut self, alloc: Global, value: Value) -> Flow
+        ensures { Leads (m.returns (value ∷ self.old.frame.operands) (seens self.old.callers)) result (seen self.new.frame) (seens self.new.callers) }
+    {
+        match self.callers.pop(alloc) {
+            Err(_) => Flow::OutOfMemory,
+            Ok(None) => Flow::Faulty,
+            Ok(Some(caller)) => self.resume(caller, value),
+        }
+    }
+
+    // Goes on with the caller, which gets a value.
+    #[inline]
+    fn resume(&mut self, caller: Frame, value: Value) -> Flow
+        ensures { Leads (m.returns (value ∷ self.old.frame.operands) (seen caller ∷ seens self.old.callers)) result (seen self.new.frame) (seens self.new.callers) }
+    {
         let gone = mem::replace(&mut self.frame, caller);
         if self.spare.keep(gone).is_err() {
             return Flow::OutOfMemory;

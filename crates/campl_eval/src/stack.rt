@@ -79,6 +79,14 @@ impl Stack {
         Ok(())
     }
 
+    /// Takes the top, where it is one of the topmost. Without one, the stack is as it was.
+    #[inline]
+    pub fn pop_near(&mut self) -> Option<Frame>
+        ensures { MatchOption result (self.new ≡ self.old) (λ top. self.old ≡ top ∷ self.new) }
+    {
+        self.top.pop()
+    }
+
     /// Takes the top, where there is one. An error means that memory is out.
     pub fn pop(&mut self, alloc: Global) -> Result<Option<Frame>, AllocError>
         ensures { IfOk result (λ top. MatchOption top ((self.old ≡ []) × (self.new ≡ [])) (λ frame. self.old ≡ frame ∷ self.new)) }
@@ -94,6 +102,8 @@ impl Stack {
 }
 
 // The lower `HALF` of the topmost go below. An error means that memory is out.
+#[cold]
+#[inline(never)]
 fn lower(
     alloc: Global,
     top: &mut Vec<Frame>,
