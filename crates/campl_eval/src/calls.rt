@@ -81,13 +81,14 @@ impl Machine {
         ensures frame { OnOk result (seen self.new.frame ≡ record { block = g; at = 0; vars = reverse (take n self.old.frame.operands) ++ replicate (size - n) NilTree; stack = [] }) }
         ensures callers { OnOk result (seens self.new.callers ≡ record { block = self.old.frame.block; at = self.old.frame.at; vars = self.old.frame.variables; stack = drop n self.old.frame.operands } ∷ seens self.old.callers) }
     {
+        self.callers.stay_light(alloc)?;
         let mut frame = self.spare.take(alloc);
         frame.block = g as usize;
         frame.at = 0;
         self.frame.operands.move_top(n, &mut frame.variables)?;
         frame.variables.pad(size)?;
         let caller = mem::replace(&mut self.frame, frame);
-        self.callers.push(alloc, caller)
+        self.callers.push(caller)
     }
 
     // Gives the top to the caller.

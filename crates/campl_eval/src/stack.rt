@@ -69,14 +69,23 @@ impl Stack {
     }
 
     /// Puts this on top. An error means that memory is out.
-    pub fn push(&mut self, alloc: Global, frame: Frame) -> Result<(), AllocError>
+    #[inline]
+    pub fn push(&mut self, frame: Frame) -> Result<(), AllocError>
         ensures { OnOk result (self.new ≡ frame ∷ self.old) }
     {
-        if self.top.len() >= MOST {
-            lower(alloc, &mut self.top, &mut self.below)?;
-        }
         self.top.push(frame)?;
         Ok(())
+    }
+
+    /// Keeps the topmost few, so that a copy takes little time: to be called before each push. An error means that memory is out.
+    #[inline]
+    pub fn stay_light(&mut self, alloc: Global) -> Result<(), AllocError>
+        ensures { OnOk result (self.new ≡ self.old) }
+    {
+        if self.top.len() < MOST {
+            return Ok(());
+        }
+        lower(alloc, &mut self.top, &mut self.below)
     }
 
     /// Takes the top, where it is one of the topmost. Without one, the stack is as it was.
