@@ -8,6 +8,7 @@ ghost use Rattle.campl_eval.specs.View.{code_of, seen, seens};
 use crate::{Flow, Frame, Machine};
 use campl_instructions::Instr;
 use campl_program::Program;
+use campl_value::Value;
 use std::alloc::{AllocError, Global};
 use std::mem;
 
@@ -80,6 +81,7 @@ impl Machine {
         ensures frame { OnOk result (seen self.new.frame ≡ record { block = g; at = 0; vars = reverse (take n self.old.frame.operands) ++ replicate (size - n) NilTree; stack = [] }) }
         ensures callers { OnOk result (seens self.new.callers ≡ record { block = self.old.frame.block; at = self.old.frame.at; vars = self.old.frame.variables; stack = drop n self.old.frame.operands } ∷ seens self.old.callers) }
     {
+        self.callers.stay_light(alloc)?;
         let mut frame = self.spare.take(alloc);
         frame.block = g as usize;
         frame.at = 0;
@@ -90,15 +92,36 @@ impl Machine {
     }
 
     // Gives the top to the caller.
-    pub(crate) fn give_back(&mut self) -> Flow
+    pub(crate) fn give_back(&mut self, alloc: Global) -> Flow
         ensures { Leads (m.returns self.old.frame.operands (seens self.old.callers)) result (seen self.new.frame) (seens self.new.callers) }
     {
         let Some(value) = self.frame.operands.pop() else {
             return Flow::Faulty;
         };
-        let Some(caller) = self.callers.pop() else {
-            return Flow::Faulty;
-        };
+        match self.callers.pop_near() {
+            Some(caller) => self.resume(caller, value),
+            None => self.give_below(alloc, value),
+        }
+    }
+
+    // Gives a value to the caller, which may be one of those that copies share.
+    #[cold]
+    #[inline(never)]
+    fn give_below(&mut self, alloc: Global, value: Value) -> Flow
+        ensures { Leads (m.returns (value ∷ self.old.frame.operands) (seens self.old.callers)) result (seen self.new.frame) (seens self.new.callers) }
+    {
+        match self.callers.pop(alloc) {
+            Err(_) => Flow::OutOfMemory,
+            Ok(None) => Flow::Faulty,
+            Ok(Some(caller)) => self.resume(caller, value),
+        }
+    }
+
+    // Goes on with the caller, which gets a value.
+    #[inline]
+    fn resume(&mut self, caller: Frame, value: Value) -> Flow
+        ensures { Leads (m.returns (value ∷ self.old.frame.operands) (seen caller ∷ seens self.old.callers)) result (seen self.new.frame) (seens self.new.callers) }
+    {
         let gone = mem::replace(&mut self.frame, caller);
         if self.spare.keep(gone).is_err() {
             return Flow::OutOfMemory;

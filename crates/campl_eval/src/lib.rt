@@ -4,7 +4,7 @@
 //!   a call puts a frame on it, or takes its place where it would only return.
 //! - An [`Eval`] starts at a place of a block. [`Eval::run`] goes on until a process's instruction comes, something breaks, or
 //!   before a call when all calls that it was given are spent; then it goes on with those that it is given next. A copy goes on
-//!   as the original does.
+//!   as the original does. It shares all callers but the topmost, so that it takes no more time where many wait.
 //!
 //! ```text
 //! let mut eval = Eval::start(alloc, block, place, variables);
@@ -14,6 +14,7 @@
 #![tactic(auto)]
 
 mod calls;
+mod chunk;
 mod eval;
 mod laws;
 mod machine;

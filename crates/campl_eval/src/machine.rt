@@ -27,7 +27,7 @@ pub struct Frame {
 #[derive(Drop)]
 pub struct Machine {
     pub frame: Frame,
-    pub callers: Stack<Frame>,
+    pub callers: Stack,
     pub spare: Spare,
 }
 
@@ -122,7 +122,7 @@ impl Machine {
             Instr::Match(n, first, places) => {
                 self.find_row(program, *n, *first, places.as_slice())
             }
-            Instr::Return => self.give_back(),
+            Instr::Return => self.give_back(alloc),
             Instr::Int(_) => self.make(alloc, instr),
             Instr::Char(_) => self.make(alloc, instr),
             Instr::Truth(_) => self.make(alloc, instr),

@@ -1,35 +1,49 @@
-//! Things on one another.
-ghost use Rattle.std.specs.Prelude.{◌≡◌, [], ◌∷◌, IfOk, OnOk, MatchOption};
+//! Frames on one another.
+ghost use Rattle.std.specs.Prelude.{◌≡◌, ◌≤◌, ◌++◌, [], ◌∷◌, length, reverse, IfOk, IfSome, IsSome, OnOk, MatchOption};
+ghost use Rattle.campl_eval.specs.Chunks.{under};
 ghost use Rattle.campl_eval.specs.View.{has_none};
 
 use crate::Frame;
+use crate::chunk::{Chunk, are_empty, copies, parts, share};
 use std::alloc::{AllocError, Global};
 use std::marker::Model;
+use std::sync::Arc;
 
-/// Things on one another. Contracts see the top first.
+// So many frames may be topmost, and a copy copies no more. Before one more comes, the lower `HALF` of them go below.
+const MOST: usize = 64;
+
+const HALF: usize = 32;
+
+/// Frames on one another, of which copies share all but the topmost. Contracts see the top first.
 #[derive(Drop)]
-pub struct Stack<T> {
-    items: Vec<T>,
+pub struct Stack {
+    top: Vec<Frame>,
+    below: Option<Arc<Chunk, Global>>,
 }
 
-impl<T> Model for Stack<T> {
-    ghost use Rattle.std.specs.Prelude.{List, reverse};
+impl Model for Stack {
+    ghost use Rattle.std.specs.Prelude.{List, ◌++◌, reverse};
+    ghost use Rattle.campl_eval.specs.declared.machine.Frame.{Frame};
+    ghost use Rattle.campl_eval.specs.Chunks.{under};
+
+    ghost Value = { List Frame };
+
+    ghost use Rattle.campl_eval.specs.contracts.machine.Frame as frame;
     ghost use Rattle.std.specs.Coded.{coded_list};
 
-    ghost Value = { List T };
+    ghost coded = { coded_list frame.the_row.coded };
 
-    ghost coded = { coded_list T.code };
-
-    ghost view = { λ stack. reverse stack.items.items };
+    ghost view = { λ stack. reverse stack.top.items ++ under stack.below };
 }
 
-impl<T> Stack<T> {
+impl Stack {
     /// An empty stack. It takes no memory.
-    pub fn new(alloc: Global) -> Stack<T>
+    pub fn new(alloc: Global) -> Stack
         ensures { result ≡ [] }
     {
         Stack {
-            items: Vec::new(alloc),
+            top: Vec::new(alloc),
+            below: None,
         }
     }
 
@@ -37,48 +51,96 @@ impl<T> Stack<T> {
     pub fn is_empty(&self) -> bool
         ensures { result ≡ has_none self.now }
     {
-        self.items.len() == 0
+        self.top.is_empty() && are_empty(&self.below)
     }
 
-    /// Takes the top, where there is one.
-    pub fn pop(&mut self) -> Option<T>
-        ensures { MatchOption result ((self.old ≡ []) × (self.new ≡ [])) (λ top. self.old ≡ top ∷ self.new) }
-    {
-        self.items.pop()
-    }
-}
-
-impl Stack<Frame> {
     /// The same frames. An error means that memory is out.
-    pub fn copy(&self, alloc: Global) -> Result<Stack<Frame>, AllocError>
+    pub fn copy(&self, alloc: Global) -> Result<Stack, AllocError>
         ensures { IfOk result (λ copy. copy ≡ self.now) }
     {
-        match copies(alloc, self.items.as_slice()) {
-            Err(error) => Err(error),
-            Ok(items) => Ok(Stack { items }),
-        }
-    }
-}
-
-fn copies(alloc: Global, frames: &[Frame]) -> Result<Vec<Frame>, AllocError>
-    ensures { IfOk result (λ copies. copies.items ≡ frames.now) }
-{
-    let mut copies = Vec::new(alloc);
-    for frame in frames {
-        match frame.copy(alloc) {
+        let below = match share(&self.below) {
             Err(error) => return Err(error),
-            Ok(copy) => copies.push(copy)?,
+            Ok(below) => below,
+        };
+        match copies(alloc, self.top.as_slice()) {
+            Err(error) => Err(error),
+            Ok(top) => Ok(Stack { top, below }),
         }
     }
-    Ok(copies)
-}
 
-impl<T: Drop> Stack<T> {
     /// Puts this on top. An error means that memory is out.
-    pub fn push(&mut self, item: T) -> Result<(), AllocError>
-        ensures { OnOk result (self.new ≡ item ∷ self.old) }
+    #[inline]
+    pub fn push(&mut self, frame: Frame) -> Result<(), AllocError>
+        ensures { OnOk result (self.new ≡ frame ∷ self.old) }
     {
-        self.items.push(item)?;
+        self.top.push(frame)?;
         Ok(())
     }
+
+    /// Keeps the topmost few, so that a copy takes little time: to be called before each push. An error means that memory is out.
+    #[inline]
+    pub fn stay_light(&mut self, alloc: Global) -> Result<(), AllocError>
+        ensures { OnOk result (self.new ≡ self.old) }
+    {
+        if self.top.len() < MOST {
+            return Ok(());
+        }
+        lower(alloc, &mut self.top, &mut self.below)
+    }
+
+    /// Takes the top, where it is one of the topmost. Without one, the stack is as it was.
+    #[inline]
+    pub fn pop_near(&mut self) -> Option<Frame>
+        ensures { MatchOption result (self.new ≡ self.old) (λ top. self.old ≡ top ∷ self.new) }
+    {
+        self.top.pop()
+    }
+
+    /// Takes the top, where there is one. An error means that memory is out.
+    pub fn pop(&mut self, alloc: Global) -> Result<Option<Frame>, AllocError>
+        ensures { IfOk result (λ top. MatchOption top ((self.old ≡ []) × (self.new ≡ [])) (λ frame. self.old ≡ frame ∷ self.new)) }
+    {
+        match self.top.pop() {
+            Some(frame) => Ok(Some(frame)),
+            None => match self.below.take() {
+                None => Ok(None),
+                Some(chunk) => raise(alloc, chunk, &mut self.top, &mut self.below),
+            },
+        }
+    }
+}
+
+// The lower `HALF` of the topmost go below. An error means that memory is out.
+#[cold]
+#[inline(never)]
+fn lower(
+    alloc: Global,
+    top: &mut Vec<Frame>,
+    below: &mut Option<Arc<Chunk, Global>>,
+) -> Result<(), AllocError>
+    requires { HALF ≤ length top.old.items }
+    ensures { OnOk result (reverse top.new.items ++ under below.new ≡ reverse top.old.items ++ under below.old) }
+{
+    let kept = top.len() - HALF;
+    top.rotate_left(HALF);
+    let frames = top.split_off(kept)?;
+    let chunk = Arc::new(alloc, Chunk::new(frames, below.take()))?;
+    *below = Some(chunk);
+    Ok(())
+}
+
+// A chunk's frames become the topmost, and the top is taken. An error means that memory is out.
+fn raise(
+    alloc: Global,
+    chunk: Arc<Chunk, Global>,
+    top: &mut Vec<Frame>,
+    below: &mut Option<Arc<Chunk, Global>>,
+) -> Result<Option<Frame>, AllocError>
+    ensures same { IfOk result (λ frame. IfSome frame (λ frame. chunk.value ≡ frame ∷ reverse top.new.items ++ under below.new)) }
+    ensures some { IfOk result (λ frame. IsSome frame) }
+{
+    let (frames, rest) = parts(alloc, chunk)?;
+    *top = frames;
+    *below = rest;
+    Ok(top.pop())
 }

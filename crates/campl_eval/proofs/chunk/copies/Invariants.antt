@@ -1,5 +1,5 @@
 use Rattle.std.proofs.Common.{◌≡◌, take}
-use Rattle.campl_eval.proofs.stack.copies.Given as goal
+use Rattle.campl_eval.proofs.chunk.copies.Given as goal
 
 abbrev pub invariant-loop-frame : goal.invariant-loop-frame
 invariant-loop-frame l = l.copies.items ≡ take l.frame-index l.frames
