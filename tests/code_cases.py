@@ -18,7 +18,7 @@ import trees as t
 from evaluation import Declared, bound_in
 from generated import COMPARISONS, CALCULATIONS, all_rows, breadth_first, judge, names_of
 from grammar import text_of
-from language_examples import PAGE, examples
+from language_examples import PAGES, TOP, examples
 from listings import Block, Code, Decision, listing_of
 from names import HERE, PRELUDE
 from processes import answer, free_in
@@ -281,7 +281,7 @@ def all_sources():
     yield from sources_of_files("../examples/*.campl")
     yield from sources_of_files("../crates/typed_sources/data/*.campl")
     yield from sources_of_files("one_of_each.campl")
-    for n, (source, _) in enumerate(examples(text_of(PAGE))):
+    for n, (source, _) in enumerate(examples(text_of(os.path.join(TOP, PAGES[0])))):
         yield "example %d of the language" % n, source
     for name, source in function_cases.all_cases():
         yield "functions: " + name, source

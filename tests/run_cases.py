@@ -23,6 +23,9 @@ PIECE = 65_536
 AMPLE = (1_000_000, 1_000_000, 0)
 TOO_LONG = "x" * (SCRIPT_BYTES + 1)
 
+# Rows that want a bigger stack than a program of cases has.
+ON_A_BIG_STACK = {"9,000 additions"}
+
 
 class Order(NamedTuple):
     """An order, with the room of each stream, the most it takes of a piece, and the call of it that fails."""
@@ -206,25 +209,27 @@ def written(case):
 # ---- The cases
 
 
-# A row whose tree is too deep for a usual stack: the program has one of its own, and tests/run_rows.py runs it there.
-DEEP = "9,000 additions"
-
-
 def row_cases():
     for row in rows():
-        if row.name == DEEP:
+        if row.name in ON_A_BIG_STACK:
             continue
         files = {"source": row.source} if row.script is None else {"source": row.source, "script": row.script}
         orders = [Order(" ".join(["run source", *options_of(row), "--workers", workers])) for workers in WORKERS]
         yield Case(row.name, files, orders)
 
 
+# A list that grows too deep, with no call that waits for another.
+GROWN = HELLO.replace("proc run", """fun grown :: Int, [Char] -> [Char] where
+    0, text -> text
+    n, text -> grown(n - 1, 'x' : text)
+proc run""").replace('"Hello"', "grown(5000, [])")
+
 ENDS = {
     "hello": (HELLO, "", 7),
     "a line that is asked for": (ASKED, "", 2),
     "a sender that runs ahead": (source("sends_ahead"), "", 12),
     "a race": (source("races_two_terminals"), RACE_SCRIPT, 23),
-    "a broken process": (source("fills_a_text", ("4095", "4096")), "", 4_099),
+    "a broken process": (GROWN, "", 4_098),
     "a bank": (source("bank"), BANK_SCRIPT, 575),
     "one step": (source("halts_at_once"), "", 1),
 }
@@ -335,7 +340,7 @@ def read_cases():
 
 
 def write_cases():
-    files = {"source": ASKED, "script": "console: hi\n", "bad": "console\n", "deep": source("fills_a_text", ("4095", "4096"))}
+    files = {"source": ASKED, "script": "console: hi\n", "bad": "console\n", "deep": GROWN}
     ends = {
         "finished": "run source --script script",
         "awaiting": "run source",
