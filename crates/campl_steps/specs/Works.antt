@@ -54,7 +54,7 @@ Works code d p i calls m entry m2 = (entry ≡ work p calls) × Calls code d p i
 -- so many calls of p in turn, at most this many, which changed nothing but p
 pub record HasCalled (code : Code) (p i most : ℕ) (old new : Config) (calls : ℕ) : Type 0 where
   pub few : calls ≤ most
-  pub calls : Calls code (drawn old) p i calls (parts old) (parts new)
+  pub made : Calls code (drawn old) p i calls (parts old) (parts new)
   pub tip : (parts new).tip ≡ (parts old).tip
   pub processes : length new.processes.items ≡ length old.processes.items
   pub ends : length new.ends.items ≡ length old.ends.items

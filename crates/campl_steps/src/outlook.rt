@@ -1,8 +1,8 @@
 //! What a process or service does next, seen without making ready for it. Nothing here takes memory.
-ghost use Rattle.std.specs.Prelude.{◌≡◌, ◌<◌, ◌^◌, ℕ, Bool, true, Some, None, if◌then◌else◌, option_map};
+ghost use Rattle.std.specs.Prelude.{◌≡◌, ◌<◌, ◌^◌, ℕ, Bool, true, Option, Some, None, if◌then◌else◌, option_map};
 ghost use Rattle.campl_service.specs.Services.{action};
 ghost use Rattle.campl_eval.specs.View.{code_of};
-ghost use Rattle.campl_cells.specs.Parts.{or_bare};
+ghost use Rattle.campl_cells.specs.Parts.{Tip, or_bare};
 ghost use Rattle.campl_cells.specs.Wants.{Drawn as Numbers, hears, says};
 ghost use Rattle.campl_cells.specs.Steps.{by_want, links_at, looks_in};
 ghost use Rattle.campl_kept.specs.View.{view_kept};
