@@ -1,15 +1,14 @@
 -- A call changes nothing but its process, which holds the same ends.
-use Rattle.std.proofs.Common.{◌≡◌, ◌≢◌, ◌≤◌, ℕ, zero, suc, ◌+◌, ◌/◌, true, false, [], Option, Some, None, IfSome, length, refl, sym, ap, subst, ◌∙◌, arith, true≢false}
+use Rattle.std.proofs.Common.{◌≡◌, ◌≤◌, ℕ, suc, ◌+◌, ◌/◌, true, [], Option, Some, None, IfSome, length, refl, sym, ap, subst, ◌∙◌, arith, true≢false}
 use Rattle.campl_meaning.specs.States as k
 use Rattle.campl_code.specs.Instructions.{Code}
 use Rattle.campl_code_bodies.specs.Kept.{Kept, Values, AtCall, Broken}
 use Rattle.campl_cells.specs.Parts.{Life, Ended, Held, Runs, Serves, Parts, Proc, Tip, put}
 use Rattle.campl_cells.specs.Stands.{IsEnd, LifeWithin, Wired}
-use Rattle.campl_cells.specs.Wants.{Drawn, Spends, Start, Want, kept_want, quiet, wanted}
+use Rattle.campl_cells.specs.Wants.{Drawn, Spends, kept_want, quiet, wanted}
 use Rattle.campl_cells.specs.Steps as steps
 use Rattle.campl_cells.specs.Steps.{Change, IsChildOf, Steps, after, by_want, goes_on, moved}
 use Rattle.campl_cells.proofs.Puts.{if-here, put-both}
-use Rattle.campl_parts.specs.declared.entry.Entry.{Entry}
 use Rattle.campl_parts.specs.Tables.{procs}
 use Rattle.campl_parts.specs.Views.{entry_of}
 use Rattle.campl_steps.specs.declared.config.Config.{Config}

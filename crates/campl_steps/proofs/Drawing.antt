@@ -1,5 +1,5 @@
 -- The kind of a step, whatever numbers are drawn.
-use Rattle.std.proofs.Common.{◌≡◌, ℕ, Bool, true, false, List, [], ◌∷◌, Option, Some, None, slice_get, refl}
+use Rattle.std.proofs.Common.{◌≡◌, ℕ, List, Option, Some, None, slice_get, refl}
 use Rattle.campl_value.specs.Tree.{Tree}
 use Rattle.campl_code.specs.Instructions.{Instr, Block, Code, blocks}
 use Rattle.campl_code.specs.Instructions as i

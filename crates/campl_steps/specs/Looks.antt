@@ -1,5 +1,5 @@
 -- What one sees of a configuration: births, services, and which ends wait.
-use Rattle.std.specs.Prelude.{ℕ, Bool, true, false, List, [], ◌∷◌, Option, Some, None, option_map, slice_get, if◌then◌else◌, eqb}
+use Rattle.std.specs.Prelude.{ℕ, Bool, true, false, List, [], ◌∷◌, Option, Some, None, slice_get, if◌then◌else◌, eqb}
 use Rattle.campl_service.specs.declared.phase.Want.TheVariants as want
 use Rattle.campl_service.specs.declared.phase.Want as phase
 use Rattle.campl_service.specs.Services as services

@@ -1,5 +1,5 @@
 -- Whether a message is such as one waits for.
-use Rattle.std.specs.Prelude.{◌≡◌, ℕ, Bool, true, false, List, Option, Some, None, is_some, slice_get}
+use Rattle.std.specs.Prelude.{◌≡◌, ℕ, Bool, true, false, List, None, is_some, slice_get}
 use Rattle.campl_value.specs.Tree.{Tree, Char, Nil, Cell}
 use Rattle.campl_value.specs.Text.{chars_of}
 use Rattle.campl_value.specs.declared.message.Message.TheVariants.{Word, Pick, Ends as EndPair}

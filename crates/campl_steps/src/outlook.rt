@@ -97,7 +97,10 @@ impl Config {
             Want::Rests => None,
             Want::Moves { kind, .. } => Some(kind),
             Want::Looks {
-                kind, end, look, ..
+                kind,
+                end,
+                look,
+                ..
             } => self.kind_of_look(kind, end, &look),
             Want::Links { end, second } => self.kind_of_link(end, second),
             Want::Hears { kind, end, service } => self.kind_of_hearing(kind, end, service),

@@ -102,13 +102,7 @@ fn end_at(waits: Waits, i: u32) -> Option<u32>
 {
     match waits {
         Waits::Nothing => None,
-        Waits::One(end) => {
-            if i == 0 {
-                Some(end)
-            } else {
-                None
-            }
-        }
+        Waits::One(end) => { if i == 0 { Some(end) } else { None } }
         Waits::Two(end, second) => one_of(end, second, i),
     }
 }

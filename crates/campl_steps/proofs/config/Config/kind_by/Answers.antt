@@ -1,9 +1,9 @@
-use Rattle.std.proofs.Common.{◌≡◌, ℕ, ap, ◌∙◌, sym}
+use Rattle.std.proofs.Common.{ap, ◌∙◌}
 use Rattle.campl_eval.specs.View.{code_of}
 use Rattle.campl_cells.specs.Wants.{Want}
 use Rattle.campl_cells.specs.Steps.{by_want}
 use Rattle.campl_parts.specs.Tables.{tips}
-use Rattle.campl_parts.specs.Views.{drawn_of, kind_of, life_of}
+use Rattle.campl_parts.specs.Views.{drawn_of, life_of}
 use Rattle.campl_steps.specs.declared.watch.TheConstants.{NONE_DRAWN}
 use Rattle.campl_steps.specs.Outlook.{kind_in}
 use Rattle.campl_steps.proofs.Drawing.{kinds-same}

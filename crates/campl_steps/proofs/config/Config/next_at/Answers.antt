@@ -1,6 +1,5 @@
-use Rattle.std.proofs.Common.{◌≡◌, ◌<◌, ℕ, Option, Some, None, option_map, subst}
+use Rattle.std.proofs.Common.{Option, option_map, subst}
 use Rattle.campl_eval.specs.View.{code_of}
-use Rattle.campl_meaning.specs.States as k
 use Rattle.campl_cells.specs.Steps.{change_of}
 use Rattle.campl_parts.specs.Tables.{tips}
 use Rattle.campl_parts.specs.Views.{kind_of, life_of, proc_of}
