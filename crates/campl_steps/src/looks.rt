@@ -1,5 +1,5 @@
 //! What one sees of a configuration. Nothing here takes memory.
-ghost use Rattle.std.specs.Prelude.{◌≡◌, ◌+◌, Some, ⊤, MatchOption, length, option_map};
+ghost use Rattle.std.specs.Prelude.{◌≡◌, ◌+◌, Some, length, option_map};
 ghost use Rattle.std.specs.Option.{option_copied};
 ghost use Rattle.campl_cells.specs.Parts.{or_bare};
 ghost use Rattle.campl_parts.specs.Tables.{procs, tips};

@@ -1,5 +1,5 @@
 //! What a process or service does next, seen without making ready for it. Nothing here takes memory.
-ghost use Rattle.std.specs.Prelude.{◌≡◌, ◌<◌, ◌^◌, ℕ, Bool, true, Option, Some, None, if◌then◌else◌, option_map};
+ghost use Rattle.std.specs.Prelude.{◌≡◌, ℕ, Bool, true, Option, Some, None, if◌then◌else◌, option_map};
 ghost use Rattle.campl_service.specs.Services.{action};
 ghost use Rattle.campl_eval.specs.View.{code_of};
 ghost use Rattle.campl_cells.specs.Parts.{Tip, or_bare};

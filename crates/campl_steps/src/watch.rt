@@ -42,7 +42,7 @@ impl Config {
     {
         match self.processes.get(number as usize) {
             None => Waits::Nothing,
-            Some(part) => waits_of(part.want(program, NONE_DRAWN, branch)),
+            Some(part) => waits_as(program, part, branch),
         }
     }
 
@@ -74,6 +74,12 @@ impl Config {
     }
 }
 
+fn waits_as(program: &Program, part: &ProcPart, branch: u32) -> Waits
+    ensures { (d : Numbers) → ends_waited result ≡ watched (wanted (code_of program.now) d (life_of part.now.life) branch) }
+{
+    waits_of(part.want(program, NONE_DRAWN, branch))
+}
+
 fn waits_of(want: Want<'_>) -> Waits
     ensures { ends_waited result ≡ watched (want_of want.entry) }
 {
@@ -91,9 +97,9 @@ fn waited(program: &Program, part: &ProcPart, i: u32) -> Option<u32>
     ensures { (d : Numbers) → result ≡ waited_by (targets_of (code_of program.now) (life_of part.now.life)) (wanted (code_of program.now) d (life_of part.now.life)) i }
 {
     if targets(program, &part.life) == 0 {
-        return end_at(waits_of(part.want(program, NONE_DRAWN, 0)), i);
+        return end_at(waits_as(program, part, 0), i);
     }
-    end_at(waits_of(part.want(program, NONE_DRAWN, i)), 0)
+    end_at(waits_as(program, part, i), 0)
 }
 
 // One of the ends on which one waits.
