@@ -21,7 +21,7 @@ use Rattle.campl_held.specs.declared.fault.LinFault.TheVariants as lin
 use Rattle.campl_held.specs.Answered.{view_fault}
 use Rattle.campl_cli.specs.declared.fault.SourceFault.{SourceFault}
 use Rattle.campl_cli.specs.declared.refusal.Refusal.{Refusal}
-use Rattle.campl_cli.specs.declared.refusal.Refusal.TheVariants.{BadCommandLine, ReadFault, TooLong, NotUtf8, Source, NotBuilt, Script, OutOfMemory}
+use Rattle.campl_cli.specs.declared.refusal.Refusal.TheVariants.{BadCommandLine, ReadFault, TooLong, NotUtf8, Source, Script, OutOfMemory}
 use Rattle.campl_cli.specs.declared.source.TreeFault.{TreeFault}
 use Rattle.campl_cli.specs.declared.source.TreeFault.TheVariants as tree
 use Rattle.campl_cli.specs.Source.{HasTree, IsOrStarves, IsRefusedFor, IsSourceFault, IsToldOfFunctions, IsToldOfNames, IsToldOfProcesses, IsToldOfTree, IsTreeRefusal, refusal_of_processes, refusal_of_text, refusal_of_typing, told_of_processes}
@@ -48,7 +48,6 @@ names_refuse program OutOfMemory h = tt
 names_refuse program BadCommandLine h = h
 names_refuse program TooLong h = h
 names_refuse program (NotUtf8 at) h = h
-names_refuse program NotBuilt h = h
 names_refuse program (Script why) h = h
 names_refuse program ReadFault h = h
 
@@ -59,7 +58,6 @@ functions_refuse program OutOfMemory h = tt
 functions_refuse program BadCommandLine h = h
 functions_refuse program TooLong h = h
 functions_refuse program (NotUtf8 at) h = h
-functions_refuse program NotBuilt h = h
 functions_refuse program (Script why) h = h
 functions_refuse program ReadFault h = h
 
@@ -69,7 +67,6 @@ processes_refuse program OutOfMemory h = tt
 processes_refuse program BadCommandLine h = h
 processes_refuse program TooLong h = h
 processes_refuse program (NotUtf8 at) h = h
-processes_refuse program NotBuilt h = h
 processes_refuse program (Script why) h = h
 processes_refuse program ReadFault h = h
 
@@ -113,6 +110,5 @@ text_refused text program OutOfMemory tree h = tt
 text_refused text program BadCommandLine tree h = h
 text_refused text program TooLong tree h = h
 text_refused text program (NotUtf8 at) tree h = h
-text_refused text program NotBuilt tree h = h
 text_refused text program (Script why) tree h = h
 text_refused text program ReadFault tree h = h

@@ -1,12 +1,10 @@
-pub mod Printing
-pub mod Depths
 pub mod Streams
 pub mod OutputLines
 pub mod TopCall
 pub mod Phases
-pub mod Shapes
-pub mod Limits
 pub mod OneAnswer
 pub mod Judging
 pub mod OneFault
 pub mod OneVerdict
+pub mod WholeRuns
+pub mod Readings

@@ -1,21 +1,12 @@
 -- What the command answers, and what it has written by then.
-use Rattle.std.specs.Prelude.{◌≡◌, ◌≢◌, ◌≤◌, ℕ, ◌⊎◌, true, List, [], ◌∷◌, ◌++◌, Option, Some, None}
+use Rattle.std.specs.Prelude.{◌≡◌, ◌≢◌, ℕ, ◌⊎◌, List, [], ◌++◌, Option, None}
 use Rattle.std.specs.Io.KnownBytes.{Appends}
 use Rattle.campl_text.specs.Counts.{Rose}
-use Rattle.campl_first_path.specs.Reductions.{Configuration}
-use Rattle.campl_first_path.specs.Ends.{IsEnd, transcript_of}
-use Rattle.campl_first_path.specs.Ends as e
-use Rattle.campl_first_path.specs.Journals.{IsRunFromStart}
-use Rattle.campl_first_path.specs.Output.{output_of}
-use Rattle.campl_config.specs.Journal.{weight_of, plain_entries}
 use Rattle.campl_cli.specs.declared.refusal.Refusal.{Refusal}
 use Rattle.campl_cli.specs.declared.refusal.Refusal.TheVariants.{OutOfMemory}
 use Rattle.campl_cli.specs.declared.report.Report.{Report}
-use Rattle.campl_cli.specs.declared.report.Ended.TheVariants.{Finished}
-use Rattle.campl_cli.specs.Form.{Prints}
-use Rattle.campl_cli.specs.Printing.{source_of}
-use Rattle.campl_cli.specs.Refusals.{Files, IsSource, IsAcceptedFile, IsDue, TakesMemory, runs, status_of, line_of, write_fault_line}
-use Rattle.campl_pipeline.specs.Source.{generated_source}
+use Rattle.campl_cli.specs.Refusals.{Files, IsAcceptedFile, IsDue, TakesMemory, status_of, line_of, write_fault_line}
+use Rattle.campl_cli.specs.Runs.{RunsFile, RunsGenerated, status_by}
 use Rattle.campl_cli.specs.Told.{ListsFile, MigratesFile, accepted_line}
 use Rattle.campl_orders.specs.Orders.{IsOrder, PlainOrder, run, check, code, generate, migrate}
 
@@ -46,47 +37,23 @@ FailedIn s bytes = Rose s.faults_before s.faults_after × ((front : List ℕ) ×
 abbrev pub HadOrFailed : Stream → List ℕ → Type 0
 HadOrFailed s bytes = Had s bytes ⊎ FailedIn s bytes
 
--- the most steps of a run
-abbrev pub step_budget : ℕ
-step_budget = 100000
-
--- the journal is a run of the source's reductions from its start to this configuration, which is finished, within the budget
-pub record HasRun (p : Prints) (report : Report) (last : Configuration) : Type 0 where
-  pub run : IsRunFromStart (source_of p) [] (plain_entries report.journal.entries) last
-  pub end : IsEnd last report.steps step_budget e.Finished
-  pub steps : report.steps ≡ weight_of report.journal.entries
-  pub within : report.steps ≤ step_budget
-  pub ended : report.ended ≡ Some Finished
-
 -- nothing ran
 pub record HasNoRun (report : Report) : Type 0 where
   pub entries : report.journal.entries ≡ []
   pub steps : report.steps ≡ 0
   pub ended : report.ended ≡ None
 
--- what a run prints that ends here
-abbrev pub printed : Prints → Report → Configuration → List ℕ
-printed p report last = output_of ((p.console, transcript_of last 0) ∷ []) e.Finished [] report.steps
-
--- a file's source is run, and prints this
-pub record RunsFile (files : Files) (file : List ℕ) (report : Report) (output : List ℕ) : Type 0 where
-  pub source : Prints
-  pub accepted : IsSource files file source
-  pub last : Configuration
-  pub run : HasRun source report last
-  pub prints : output ≡ printed source report last
-
 -- what each order does that isn't refused
 abbrev pub Does : PlainOrder → Files → Report → (output : List ℕ) → Type 0
-Does (run file script steps workers) files report output = (runs script steps ≡ true) × RunsFile files file report output
+Does (run file script steps workers) files report output = RunsFile files file script steps report output
 Does (check file) files report output = HasNoRun report × IsAcceptedFile files file × (output ≡ accepted_line)
 Does (code file) files report output = HasNoRun report × ListsFile files file output
-Does (generate stages workers) files report output = HasNoRun report × (output ≡ generated_source stages)
+Does (generate stages workers) files report output = RunsGenerated stages report output
 Does (migrate file) files report output = HasNoRun report × MigratesFile files file output
 
--- it was done, and its output is written
+-- it was done, and its output is written; the status tells how a run ended
 pub record Did (words : List (List ℕ)) (files : Files) (out err : Stream) (report : Report) : Type 0 where
-  pub status : report.status ≡ 0
+  pub status : report.status ≡ status_by report.ended
   pub order : PlainOrder
   pub is : IsOrder words order
   pub output : List ℕ

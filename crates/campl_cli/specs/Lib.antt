@@ -1,9 +1,8 @@
-pub mod Form
 pub mod Faults
 pub mod Source
-pub mod Printing
 pub mod Scripts
 pub mod Refusals
+pub mod Runs
 pub mod Told
 pub mod Answer
 pub mod Performance

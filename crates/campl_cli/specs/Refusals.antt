@@ -1,18 +1,20 @@
 -- Why the command ended before it did what was ordered: each refusal with its status, its line, and when it is due.
-use Rattle.std.specs.Prelude.{◌≡◌, ◌⊎◌, ℕ, ◌<◌, ◌==◌, Bool, true, false, List, [], ◌∷◌, ◌++◌, Option, Some, None, IfSome, codes, length, Err, Ok, ⊤}
+use Rattle.std.specs.Prelude.{◌≡◌, ◌⊎◌, ℕ, ◌<◌, List, [], ◌∷◌, ◌++◌, Option, Some, None, IfSome, codes, chars, length, Err, Ok, ⊤}
 use Rattle.std.specs.Fmt.{decimal}
 use Rattle.campl_text.specs.Counts.{Rose}
 use Rattle.campl_text.specs.Reading.{IsReading, IsTextWithin}
 use Rattle.campl_text.specs.declared.reading.TextFault.TheVariants as t
 use Rattle.campl_tree.specs.declared.decl.Program.{Program}
 use Rattle.campl_cli.specs.declared.refusal.Refusal.{Refusal}
-use Rattle.campl_cli.specs.declared.refusal.Refusal.TheVariants.{BadCommandLine, ReadFault, TooLong, NotUtf8, Source, NotBuilt, Script, OutOfMemory}
+use Rattle.campl_cli.specs.declared.refusal.Refusal.TheVariants.{BadCommandLine, ReadFault, TooLong, NotUtf8, Source, Script, OutOfMemory}
 use Rattle.campl_cli.specs.Faults.{message_of_fault}
 use Rattle.campl_cli.specs.declared.script.ScriptRefusal.TheVariants as script
 use Rattle.campl_cli.specs.Scripts.{IsUnmigrated, ScriptTakesMemory, message_of_script, script_limit}
-use Rattle.campl_cli.specs.Form.{Prints, IsFormOf}
-use Rattle.campl_cli.specs.Source.{IsAcceptedAs, IsAcceptedText, IsRefusedFor, IsSourceFault}
+use Rattle.campl_cli.specs.Source.{IsAcceptedAs, IsAcceptedText, IsRefusedFor, IsSourceFault, heading_of}
 use Rattle.campl_orders.specs.Orders.{IsOrder, PlainOrder, run, check, code, generate, migrate}
+use Rattle.campl_pipeline.specs.Source.{generated_source}
+use Rattle.campl_service.specs.Reading.{scripts_of}
+use Rattle.campl_tree.specs.declared.service.ServiceName.{ServiceName}
 
 -- the most bytes that a source has
 abbrev pub source_limit : ℕ
@@ -23,7 +25,6 @@ status_of BadCommandLine = 2
 status_of TooLong = 3
 status_of (NotUtf8 at) = 3
 status_of (Source fault) = 3
-status_of NotBuilt = 3
 status_of (Script why) = 4
 status_of ReadFault = 5
 status_of OutOfMemory = 7
@@ -33,7 +34,6 @@ message_of BadCommandLine = codes "bad command line"
 message_of TooLong = codes "source is longer than 1048576 bytes"
 message_of (NotUtf8 at) = codes "source isn't UTF-8 at byte " ++ decimal at
 message_of (Source fault) = message_of_fault fault
-message_of NotBuilt = codes "E60 NotBuilt at 1:1"
 message_of (Script why) = message_of_script why
 message_of ReadFault = codes "read fault"
 message_of OutOfMemory = codes "out of memory"
@@ -48,7 +48,6 @@ TakesMemory (NotUtf8 at) = ⊤
 TakesMemory (Source fault) = ⊤
 TakesMemory BadCommandLine = ⊥
 TakesMemory TooLong = ⊥
-TakesMemory NotBuilt = ⊥
 TakesMemory (Script why) = ScriptTakesMemory why
 TakesMemory ReadFault = ⊥
 TakesMemory OutOfMemory = ⊥
@@ -79,30 +78,7 @@ HasText files file text = IsTextWithin source_limit text × IfSome (files.held f
 abbrev pub HasScript : Files → (file text : List ℕ) → Type 0
 HasScript files file text = IsTextWithin script_limit text × IfSome (files.held file) (λ contents. IsReading contents script_limit (Ok text))
 
--- ---- texts
-
--- the text is accepted and of the form that runs so far, and prints this
-abbrev pub PrintsText : List ℕ → Prints → Type 0
-PrintsText text p = (program : Program) × IsAcceptedAs text program × IsFormOf p program
-
--- the text is accepted, and of another form
-abbrev pub IsOfAnotherForm : List ℕ → Type 0
-IsOfAnotherForm text = (program : Program) × IsAcceptedAs text program × ((p : Prints) → IsFormOf p program → ⊥)
-
--- no text
-abbrev pub IsNone : List ℕ → Type 0
-IsNone text = ⊥
-
--- when a text is refused so, where what is ordered isn't built for some accepted texts: for its first fault, or since it
--- is one of these; want of memory alone comes freely
-abbrev pub IsRefusedText : (unbuilt : List ℕ → Type 0) → List ℕ → Refusal → Type 0
-IsRefusedText unbuilt text refusal = IsRefusedFor (IsSourceFault text) refusal ⊎ ((refusal ≡ NotBuilt) × unbuilt text)
-
 -- ---- sources
-
--- the file's source is accepted and of the form that runs so far, and prints this
-abbrev pub IsSource : Files → (file : List ℕ) → Prints → Type 0
-IsSource files file p = (text : List ℕ) × HasText files file text × PrintsText text p
 
 -- the file's source is accepted
 abbrev pub IsAcceptedFile : Files → (file : List ℕ) → Type 0
@@ -116,12 +92,11 @@ IsUnread files file (NotUtf8 at) = IfSome (files.held file) (λ contents. IsRead
 IsUnread files file OutOfMemory = ⊤
 IsUnread files file BadCommandLine = ⊥
 IsUnread files file (Source fault) = ⊥
-IsUnread files file NotBuilt = ⊥
 IsUnread files file (Script why) = ⊥
 
 -- when a file's source is refused so, by any order about it: its text can't be had, or is refused
-abbrev pub IsRefusedSource : (unbuilt : List ℕ → Type 0) → Files → (file : List ℕ) → Refusal → Type 0
-IsRefusedSource unbuilt files file refusal = IsUnread files file refusal ⊎ ((text : List ℕ) × HasText files file text × IsRefusedText unbuilt text refusal)
+abbrev pub IsRefusedSource : Files → (file : List ℕ) → Refusal → Type 0
+IsRefusedSource files file refusal = IsUnread files file refusal ⊎ ((text : List ℕ) × HasText files file text × IsRefusedFor (IsSourceFault text) refusal)
 
 -- ---- scripts
 
@@ -143,24 +118,36 @@ IsRefusedScript text _ = ⊥
 abbrev pub IsRefusedMigration : Files → (file : List ℕ) → Refusal → Type 0
 IsRefusedMigration files file refusal = IsUnreadScript files file refusal ⊎ ((text : List ℕ) × HasScript files file text × IsRefusedScript text refusal)
 
+-- ---- runs
+
+-- when the lines of a script are refused so, under the names of the heading
+abbrev pub IsRefusedLines : List ServiceName → (text : List ℕ) → Refusal → Type 0
+IsRefusedLines names text (Script (script.Line fault)) = scripts_of names (chars text) ≡ Err fault
+IsRefusedLines names text OutOfMemory = ⊤
+IsRefusedLines names text _ = ⊥
+
+-- when a run has no scripts, for this reason: the script of its file can't be had or is refused; without a file memory alone may want
+abbrev pub IsRefusedScripts : Files → (script : Option (List ℕ)) → List ServiceName → Refusal → Type 0
+IsRefusedScripts files None names refusal = refusal ≡ OutOfMemory
+IsRefusedScripts files (Some file) names refusal = IsUnreadScript files file refusal ⊎ ((text : List ℕ) × HasScript files file text × IsRefusedLines names text refusal)
+
+-- when the run of a text is refused so: the text is, or it is accepted, and its scripts are
+abbrev pub IsRefusedText : List ℕ → (scripts : List ServiceName → Refusal → Type 0) → Refusal → Type 0
+IsRefusedText text scripts refusal = IsRefusedFor (IsSourceFault text) refusal ⊎ ((tree : Program) × IsAcceptedAs text tree × scripts (heading_of tree) refusal)
+
+-- when a file's run is refused so: its text can't be had, or its run is refused
+abbrev pub IsRefusedRun : Files → (file : List ℕ) → (script : Option (List ℕ)) → Refusal → Type 0
+IsRefusedRun files file script refusal =
+    IsUnread files file refusal ⊎ ((text : List ℕ) × HasText files file text × IsRefusedText text (IsRefusedScripts files script) refusal)
+
 -- ---- orders
 
--- what runs so far: no script, and the usual budget
-abbrev pub runs : (script : Option (List ℕ)) → (steps : ℕ) → Bool
-runs None steps = steps == 100000
-runs (Some script) steps = false
-
--- the accepted texts that aren't run yet: those of another form, and with a script or another budget all of them
-abbrev pub IsNotRun : Bool → List ℕ → Type 0
-IsNotRun true = IsOfAnotherForm
-IsNotRun false = IsAcceptedText
-
--- when an order is refused so: its source is, or it isn't built, or its script is; a source is generated but for want of memory
+-- when an order is refused so: its source is, or its script is; a generated source is refused as any other text is
 abbrev pub IsRefusedOrder : PlainOrder → Files → Refusal → Type 0
-IsRefusedOrder (run file script steps workers) files refusal = IsRefusedSource (IsNotRun (runs script steps)) files file refusal
-IsRefusedOrder (check file) files refusal = IsRefusedSource IsNone files file refusal
-IsRefusedOrder (code file) files refusal = IsRefusedSource IsNone files file refusal
-IsRefusedOrder (generate stages workers) files refusal = refusal ≡ OutOfMemory
+IsRefusedOrder (run file script steps workers) files refusal = IsRefusedRun files file script refusal
+IsRefusedOrder (check file) files refusal = IsRefusedSource files file refusal
+IsRefusedOrder (code file) files refusal = IsRefusedSource files file refusal
+IsRefusedOrder (generate stages workers) files refusal = IsRefusedFor (IsSourceFault (generated_source stages)) refusal
 IsRefusedOrder (migrate file) files refusal = IsRefusedMigration files file refusal
 
 -- when a command is refused so: its words are no order, or its order is refused

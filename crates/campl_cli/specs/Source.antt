@@ -16,7 +16,7 @@ use Rattle.campl_terminals.specs.Terminals.{terminals_of}
 use Rattle.campl_parse.specs.Parsing as parsing
 use Rattle.campl_cli.specs.declared.fault.SourceFault.{SourceFault}
 use Rattle.campl_cli.specs.declared.refusal.Refusal.{Refusal}
-use Rattle.campl_cli.specs.declared.refusal.Refusal.TheVariants.{BadCommandLine, ReadFault, TooLong, NotUtf8, Source, NotBuilt, Script, OutOfMemory}
+use Rattle.campl_cli.specs.declared.refusal.Refusal.TheVariants.{BadCommandLine, ReadFault, TooLong, NotUtf8, Source, Script, OutOfMemory}
 use Rattle.campl_cli.specs.declared.source.TreeFault.{TreeFault}
 use Rattle.campl_cli.specs.declared.source.TreeFault.TheVariants as tree
 use Rattle.campl_cli.specs.declared.fault.FaultKind.TheVariants.{Text, Name, Function, Process}
@@ -34,7 +34,9 @@ use Rattle.campl_types.specs.declared.fault.NameFault.{NameFault}
 use Rattle.campl_types.specs.declared.fault.NameFault.TheVariants as naming
 use Rattle.campl_types.specs.Sequential.{FunctionsAreTyped}
 use Rattle.campl_types.specs.WellDeclared.{name_faults, IsWellDeclared}
-use Rattle.campl_types.specs.World.{world_of}
+use Rattle.campl_types.specs.World.{World, world_of}
+use Rattle.campl_types.specs.Run.{services_of}
+use Rattle.campl_tree.specs.declared.service.ServiceName.{ServiceName}
 use Rattle.campl_seqcheck.specs.declared.fault.SeqFault.{SeqFault}
 use Rattle.campl_seqcheck.specs.declared.fault.SeqFault.TheVariants as typing
 use Rattle.campl_seqcheck.specs.Functions.{judge_functions}
@@ -86,6 +88,18 @@ IsAcceptedAs text program = HasTree text program × IsAccepted (view_program pro
 
 abbrev pub IsAcceptedText : List ℕ → Type 0
 IsAcceptedText text = (program : Program) × IsAcceptedAs text program
+
+-- it is the world of an accepted source
+abbrev pub IsAcceptedWorld : World → Type 0
+IsAcceptedWorld world = (source : d.Program) × IsAccepted source × (world ≡ world_of source)
+
+-- the text is accepted, and this is its world
+abbrev pub IsWorldOf : List ℕ → World → Type 0
+IsWorldOf text world = (program : Program) × IsAcceptedAs text program × (world ≡ world_of (view_program program))
+
+-- the services that a program names, in the order of its heading
+abbrev pub heading_of : Program → List ServiceName
+heading_of program = services_of (world_of (view_program program))
 
 -- how a fault of names is told
 abbrev pub told_of_names : NameFault → Option SourceFault
@@ -210,6 +224,5 @@ IsRefusedFor told OutOfMemory = ⊤
 IsRefusedFor told BadCommandLine = ⊥
 IsRefusedFor told TooLong = ⊥
 IsRefusedFor told (NotUtf8 at) = ⊥
-IsRefusedFor told NotBuilt = ⊥
 IsRefusedFor told (Script why) = ⊥
 IsRefusedFor told ReadFault = ⊥

@@ -6,14 +6,16 @@ ghost use Rattle.campl_types.specs.WellDeclared.{IsWellDeclared};
 ghost use Rattle.campl_types.specs.World.{world_of};
 ghost use Rattle.campl_meaning.specs.Lawful.{IsAccepted};
 ghost use Rattle.campl_held.specs.Chosen.{ChoicesAreDeclared};
-ghost use Rattle.campl_cli.specs.Source.{IsAcceptedText, IsRefusedFor, IsSourceFault, IsToldOfTree};
+ghost use Rattle.campl_cli.specs.Source.{IsAcceptedText, IsRefusedFor, IsSourceFault, IsToldOfTree, IsWorldOf};
 ghost use Rattle.campl_cli.specs.declared.fault.SourceFault.{SourceFault};
 
 use crate::functions::judge_functions;
 use crate::names::judge_names;
 use crate::processes::judge_processes;
 use crate::refusal::Refusal;
+use crate::source::tree_of;
 use campl_names::World;
+use campl_text::Text;
 use campl_tree::Program;
 use std::alloc::Global;
 
@@ -43,6 +45,30 @@ pub fn judged(alloc: Global, program: Program) -> Result<World, Refusal>
     match judge_world(alloc, &world) {
         Ok(()) => Ok(world),
         Err(refusal) => Err(refusal),
+    }
+}
+
+/// The world of an accepted text.
+///
+/// # Errors
+///
+/// The refusal for the text's first fault, or `OutOfMemory` where memory wants.
+pub fn world_of_text(alloc: Global, text: &Text) -> Result<World, Refusal>
+    ensures { MatchResult result (λ world. IsWorldOf text.now (map view_decl world)) (IsRefusedFor (IsSourceFault text.now)) }
+{
+    match tree_of(alloc, text) {
+        Ok(program) => judged(alloc, program),
+        Err(fault) => Err(Refusal::of_text(fault)),
+    }
+}
+
+/// Whether a text is accepted; else as [`world_of_text`].
+pub fn judge_text(alloc: Global, text: &Text) -> Result<(), Refusal>
+    ensures { MatchResult result (λ _. IsAcceptedText text.now) (IsRefusedFor (IsSourceFault text.now)) }
+{
+    match tree_of(alloc, text) {
+        Ok(program) => judge(alloc, program),
+        Err(fault) => Err(Refusal::of_text(fault)),
     }
 }
 

@@ -1,18 +1,15 @@
 //! What an order came to and prints, before any of it is written.
-ghost use Rattle.std.specs.Prelude.{◌≡◌, IfOk};
-ghost use Rattle.campl_config.specs.Journal.{weight_of};
+ghost use Rattle.std.specs.Prelude.{◌≡◌, ◌++◌, Some, IfOk};
 ghost use Rattle.campl_cli.specs.Answer.{stream, HadOrFailed};
-ghost use Rattle.campl_cli.specs.Form.{IsFine, prints_of};
-ghost use Rattle.campl_cli.specs.Performance.{IsPerformance, IsPrinted, IsTelling};
+ghost use Rattle.campl_cli.specs.Performance.{IsHeaded, IsPrinted, IsTelling, report_of, report_with};
 ghost use Rattle.campl_cli.specs.Refusals.{write_fault_line};
+ghost use Rattle.campl_cli.specs.Runs.{generated_line};
 ghost use Rattle.campl_cli.specs.Told.{accepted_line};
 
-use crate::output::output;
-use crate::printer::Printer;
-use crate::report::{Ended, Report};
-use crate::runner::run;
+use crate::report::{Report, status_by};
 use crate::telling::WRITE_FAULT;
-use campl_config::Journal;
+use campl_parts::Journal;
+use campl_run::{Ended, Ran};
 use campl_text::{Sink, write_all_of};
 use std::alloc::{AllocError, Global};
 
@@ -56,38 +53,67 @@ pub fn tell_alone(alloc: Global, output: Vec<u8>) -> Performance
     }
 }
 
-/// Runs a printer, and builds its whole output.
-pub fn perform(alloc: Global, printer: &Printer) -> Result<Performance, AllocError>
-    requires { IsFine (prints_of printer.now) }
-    ensures { IfOk result (IsPerformance (prints_of printer.now)) }
+/// What a run came to.
+pub fn performed(ran: Ran) -> Performance
+    ensures { result ≡ record { journal = ran.journal; ended = Some ran.ended; output = ran.output } }
 {
-    let texts = printer.texts.as_slice();
-    let journal = run(alloc, texts)?;
-    let output = output(alloc, &printer.console, texts, journal.weight())?;
-    Ok(Performance {
+    let Ran {
         journal,
-        ended: Some(Ended::Finished),
+        ended,
         output,
-    })
+    } = ran;
+    Performance {
+        journal,
+        ended: Some(ended),
+        output,
+    }
 }
 
-/// Writes the output, and reports what was done: with status 0, or 6 where the output couldn't be written.
+/// Puts before its output the line that tells how many stages were generated.
+pub fn headed(
+    alloc: Global,
+    stages: u32,
+    performance: Performance,
+) -> Result<Performance, AllocError>
+    ensures { IfOk result (IsHeaded (generated_line stages) performance) }
+{
+    let Performance {
+        journal,
+        ended,
+        output: behind,
+    } = performance;
+    match line_before(alloc, stages, behind.as_slice()) {
+        Ok(output) => Ok(Performance {
+            journal,
+            ended,
+            output,
+        }),
+        Err(error) => Err(error),
+    }
+}
+
+// The line of so many stages, and these bytes behind it.
+fn line_before(alloc: Global, stages: u32, behind: &[u8]) -> Result<Vec<u8>, AllocError>
+    ensures { IfOk result (λ output. output.items ≡ generated_line stages ++ behind.now) }
+{
+    let line = format!(in alloc; "generated {stages} stages\n")?;
+    let mut output = line.into_bytes();
+    output.extend_from_slice(behind)?;
+    Ok(output)
+}
+
+/// Writes the output, and reports what was done: with the status of its end, or 6 where the output couldn't be written.
 pub fn print<O: Sink, E: Sink>(performance: Performance, out: &mut O, err: &mut E) -> Report
     ensures { IsPrinted performance
         (stream O.written O.faults out.old out.new)
         (stream E.written E.faults err.old err.new)
         result }
 {
-    let Performance {
-        journal,
-        ended,
-        output,
-    } = performance;
-    match write_all_of(out, output.as_slice()) {
-        Ok(()) => report(0, ended, journal),
+    match write_all_of(out, performance.output.as_slice()) {
+        Ok(()) => reported(performance),
         Err(_) => {
             tell_write_fault(err);
-            report(WRITE_FAULT, ended, journal)
+            report_with(WRITE_FAULT, performance)
         }
     }
 }
@@ -102,13 +128,23 @@ fn tell_write_fault<E: Sink>(err: &mut E)
     }
 }
 
-// The report of what was done.
-fn report(status: u8, ended: Option<Ended>, journal: Journal) -> Report
-    ensures status { result.status ≡ status }
-    ensures ended { result.ended ≡ ended }
-    ensures steps { result.steps ≡ weight_of journal.entries }
-    ensures journal { result.journal ≡ journal }
+// The report of what was done where its output is written.
+fn reported(performance: Performance) -> Report
+    ensures { result ≡ report_of performance }
 {
+    report_with(status_by(performance.ended), performance)
+}
+
+// The report of what was done, with this status.
+fn report_with(status: u8, performance: Performance) -> Report
+    ensures { result ≡ report_with status performance }
+{
+    let Performance {
+        journal,
+        ended,
+        output,
+    } = performance;
+    drop(output);
     let steps = journal.weight();
     Report {
         status,

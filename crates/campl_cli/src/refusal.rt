@@ -26,13 +26,10 @@ pub enum Refusal {
     /// The source has a fault, of which this is the first: of its tokens, layout or grammar, its names, its functions or its processes.
     #[error("{0}")]
     Source(SourceFault),
-    /// The source is accepted, and what is ordered isn't built for it yet.
-    #[error("E60 NotBuilt at 1:1")]
-    NotBuilt,
     /// The script is refused.
     #[error("script refused: {0:?}")]
     Script(ScriptRefusal),
-    /// The source can't be read.
+    /// The source or the script can't be read.
     #[error("read fault")]
     ReadFault,
     /// Memory ran out.
@@ -47,7 +44,6 @@ impl Drop for Refusal {
             Refusal::BadCommandLine
             | Refusal::TooLong
             | Refusal::NotUtf8 { at: _ }
-            | Refusal::NotBuilt
             | Refusal::Script(_)
             | Refusal::ReadFault
             | Refusal::OutOfMemory => (),
@@ -76,8 +72,7 @@ impl Refusal {
     {
         match self {
             Refusal::BadCommandLine => 2,
-            Refusal::TooLong | Refusal::NotUtf8 { .. } | Refusal::Source(_) | Refusal::NotBuilt =>
-                3,
+            Refusal::TooLong | Refusal::NotUtf8 { .. } | Refusal::Source(_) => 3,
             Refusal::Script(_) => 4,
             Refusal::ReadFault => 5,
             Refusal::OutOfMemory => 7,

@@ -1,24 +1,25 @@
-//! Scripts that are migrated.
+//! Why scripts are refused, and scripts that are migrated.
 ghost use Rattle.std.specs.Prelude.{◌≡◌, MatchResult};
-ghost use Rattle.campl_cli.specs.Refusals.{files, HasScript, IsUnreadScript, IsRefusedMigration, IsRefusedScript};
+ghost use Rattle.campl_cli.specs.Refusals.{files, IsRefusedMigration, IsRefusedScript};
 ghost use Rattle.campl_cli.specs.Scripts.{IsMigrated, line_number, what_is_wrong};
 ghost use Rattle.campl_cli.specs.Told.{MigratesFile};
 
+use crate::reading::read_script;
 use crate::refusal::Refusal;
-use campl_service::{MigrateFault, SCRIPT_BYTES_MAX, ScriptFault, migrate_script};
-use campl_text::{Shelf, Text, TextFault, read_text};
+use campl_service::{MigrateFault, ScriptFault, migrate_script};
+use campl_text::{Shelf, Text};
 use std::alloc::Global;
 
 /// Why a script is refused.
 #[derive(Clone, Copy, Debug, PartialEq, Eq)]
 pub enum ScriptRefusal {
-    /// It is longer than `SCRIPT_BYTES_MAX`.
+    /// It is longer than [`SCRIPT_BYTES_MAX`](campl_service::SCRIPT_BYTES_MAX).
     TooLong,
     /// It isn't UTF-8; its longest front that is has `at` bytes.
     NotUtf8 { at: u64 },
     /// It has a fault, of which this is the first.
     Line(ScriptFault),
-    /// In version 2 it would be longer than `SCRIPT_BYTES_MAX`.
+    /// In version 2 it would be longer than that.
     MigratedTooLong,
 }
 
@@ -35,21 +36,6 @@ pub fn migrated_of<F: Shelf>(alloc: Global, file: &str, shelf: &mut F) -> Result
     match read_script(alloc, file, shelf) {
         Ok(text) => migrated_text(alloc, &text),
         Err(refusal) => Err(refusal),
-    }
-}
-
-// Reads the text of a script.
-fn read_script<F: Shelf>(alloc: Global, file: &str, shelf: &mut F) -> Result<Text, Refusal>
-    ensures { MatchResult result
-        (λ text. HasScript (files F.holds F.faults shelf.old shelf.new) file.now text)
-        (IsUnreadScript (files F.holds F.faults shelf.old shelf.new) file.now) }
-{
-    match read_text(alloc, shelf, file, SCRIPT_BYTES_MAX) {
-        Ok(text) => Ok(text),
-        Err(TextFault::ReadFault) => Err(Refusal::ReadFault),
-        Err(TextFault::TooLong) => Err(Refusal::Script(ScriptRefusal::TooLong)),
-        Err(TextFault::NotUtf8 { at }) => Err(Refusal::Script(ScriptRefusal::NotUtf8 { at })),
-        Err(TextFault::OutOfMemory) => Err(Refusal::OutOfMemory),
     }
 }
 

@@ -11,7 +11,7 @@ use crate::fault::{Detail, SourceFault, side_word};
 use crate::refusal::Refusal;
 use crate::report::Report;
 use crate::script::{ScriptRefusal, line_number, what_is_wrong};
-use campl_config::Journal;
+use campl_parts::Journal;
 use campl_service::ScriptFault;
 use campl_shown::Shown;
 use campl_text::{Sink, write_all_of};
@@ -42,7 +42,6 @@ fn standing_line(refusal: &Refusal) -> Option<&'static str>
     match refusal {
         Refusal::BadCommandLine => Some("campl: bad command line\n"),
         Refusal::TooLong => Some("campl: source is longer than 1048576 bytes\n"),
-        Refusal::NotBuilt => Some("campl: E60 NotBuilt at 1:1\n"),
         Refusal::ReadFault => Some("campl: read fault\n"),
         Refusal::OutOfMemory => Some(OUT_OF_MEMORY_LINE),
         Refusal::Script(ScriptRefusal::TooLong) => Some(
@@ -75,11 +74,8 @@ fn made_line(alloc: Global, refusal: &Refusal) -> Result<String, AllocError>
         Refusal::NotUtf8 { at } => format!(in alloc; "campl: source isn't UTF-8 at byte {at}\n"),
         Refusal::Source(fault) => line_of_fault(alloc, fault),
         Refusal::Script(why) => line_of_script(alloc, why),
-        Refusal::BadCommandLine
-        | Refusal::TooLong
-        | Refusal::NotBuilt
-        | Refusal::ReadFault
-        | Refusal::OutOfMemory => unreachable!(),
+        Refusal::BadCommandLine | Refusal::TooLong | Refusal::ReadFault | Refusal::OutOfMemory =>
+            unreachable!(),
     }
 }
 

@@ -16,6 +16,7 @@ use Rattle.campl_run.specs.declared.ended.Ended.{Ended}
 use Rattle.campl_run.specs.declared.ended.Ended.TheVariants as v
 use Rattle.campl_run.specs.declared.running.Ran.{Ran}
 
+-- the ending that it names
 abbrev pub ending_of : Ended → Ending
 ending_of v.Finished = e.Finished
 ending_of v.Awaiting = e.Awaiting

@@ -6,11 +6,13 @@
 //! let ran = run(alloc, &world, code, scripts, budget)?;
 //! ```
 //!
-//! In reading order: `ended`, how a run ends; `services`, the services of a source and their start; `running`, the run; `output`, what
-//! it prints.
+//! In reading order: `ended`, how a run ends; `services`, the services of a source and their start; `number`, that of `run` in the
+//! code; `output`, what a run prints; `running`, the run.
 #![tactic(auto)]
 
 mod ended;
+mod number;
+mod output;
 mod running;
 mod services;
 

@@ -1,0 +1,10 @@
+pub mod Bearing
+pub mod Drawing
+pub mod Flags
+pub mod Growing
+pub mod Resting
+pub mod Running
+pub mod Starting
+pub mod Stepping
+pub mod Trying
+pub mod Waking

@@ -1,2 +1,4 @@
+pub mod Asking
 pub mod Beginning
+pub mod Fits
 pub mod Solos

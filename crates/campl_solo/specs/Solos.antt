@@ -1,5 +1,5 @@
 -- The run of one at a time in memory.
-use Rattle.std.specs.Prelude.{◌≡◌, ◌<◌, ◌+◌, ℕ, suc, List, [], ◌++◌, Option, Some, None, IsSome, Result, Ok, Err, length, map}
+use Rattle.std.specs.Prelude.{◌≡◌, ◌<◌, ◌≤◌, ℕ, suc, Bool, true, false, List, [], ◌∷◌, ◌++◌, Option, Some, None, IsSome, Result, Ok, Err, length, map}
 use Rattle.std.specs.declared.alloc.AllocError.{AllocError}
 use Rattle.campl_tree.specs.Plain.Decl.{Program}
 use Rattle.campl_machine.specs.Names.{Service}
@@ -63,12 +63,18 @@ pub record HasStepped (source : Program) (code : Code) (n : Naming) (c : Configu
   pub turn : Turn
   pub means : Means (world_of source) code n (parts old.config) c turn (entry_of entry) (parts new.config)
   pub run : IsRun source code means.naming means.next new
+  pub one : entry.weight ≡ 1
 
--- that, or nobody has a step, or memory or numbers are out, and the run stands where it stood
+-- it stands where it stood
+pub record Stays (source : Program) (code : Code) (n : Naming) (c : Configuration) (old new : Solo) : Type 0 where
+  pub run : IsRun source code n c new
+  pub same : parts new.config ≡ parts old.config
+
+-- that step, or nobody has one, or memory or numbers are out
 abbrev pub Steps : Program → Code → Naming → Configuration → (old new : Solo) → Result (Option Entry) AllocError → Type 0
 Steps source code n c old new (Ok (Some entry)) = HasStepped source code n c old entry new
-Steps source code n c old new (Ok None) = IsRun source code n c new × Rest code new
-Steps source code n c old new (Err error) = IsRun source code n c new
+Steps source code n c old new (Ok None) = Stays source code n c old new × Rest code new
+Steps source code n c old new (Err error) = Stays source code n c old new
 
 -- the entries that a run made, as journals tell them
 abbrev pub told : List Entry → List journals.Entry
@@ -82,6 +88,19 @@ pub record GoesOn (source : Program) (code : Code) (n : Naming) (c : Configurati
   pub run : Run (FirstReduces (world_of source)) (weight_of entries) c last
   pub is : IsRun source code naming last new
 
+-- the journal has grown by the steps that were made
+pub record Grew (source : Program) (code : Code) (n : Naming) (c : Configuration) (old new : Solo) (before after : List Entry) : Type 0 where
+  pub entries : List Entry
+  pub appended : after ≡ before ++ entries
+  pub goes : GoesOn source code n c (parts old.config) entries new
+
+-- a step was made and is in the journal, or nobody has one, or memory or numbers are out
+abbrev pub Written : Program → Code → Naming → Configuration → (old new : Solo) → (before after : List Entry) → Result Bool AllocError → Type 0
+Written source code n c old new before after (Ok true) =
+    (entry : Entry) × (after ≡ before ++ entry ∷ []) × HasStepped source code n c old entry new
+Written source code n c old new before after (Ok false) = (after ≡ before) × Stays source code n c old new × Rest code new
+Written source code n c old new before after (Err error) = (after ≡ before) × Stays source code n c old new
+
 -- why it stopped: nobody has a step, or the budget is spent and somebody has one
 abbrev pub Stopped : (source : Program) → Code → (total budget : ℕ) → Configuration → Solo → Result Stop AllocError → Type 0
 Stopped source code total budget last new (Ok Rested) = Rest code new
@@ -92,5 +111,6 @@ Stopped source code total budget last new (Err error) = Unit {0}
 pub record Ran (source : Program) (code : Code) (budget : ℕ) (n : Naming) (c : Configuration) (old new : Solo) (before after : List Entry) (result : Result Stop AllocError) : Type 0 where
   pub entries : List Entry
   pub appended : after ≡ before ++ entries
+  pub within : weight_of after ≤ budget
   pub goes : GoesOn source code n c (parts old.config) entries new
   pub stopped : Stopped source code (weight_of after) budget goes.last new result

@@ -13,5 +13,7 @@
 #![tactic(auto)]
 
 mod solo;
+mod tables;
+mod turn;
 
 pub use solo::{Solo, Stop};

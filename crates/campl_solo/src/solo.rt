@@ -1,5 +1,5 @@
 //! The run of one at a time.
-ghost use Rattle.std.specs.Prelude.{◌≡◌, ◌≤◌, ◌^◌, ◌<◌, Some, IfOk, List, codes, map};
+ghost use Rattle.std.specs.Prelude.{◌≡◌, ◌≤◌, ◌^◌, ◌<◌, ◌+◌, Some, IfOk, List, codes, map};
 ghost use Rattle.campl_tree.specs.Plain.Decl.{Program as Source};
 ghost use Rattle.campl_types.specs.World.{world_of};
 ghost use Rattle.campl_types.specs.Run.{services_of};
@@ -11,8 +11,9 @@ ghost use Rattle.campl_code_bodies.specs.Bodies.{StandsFor};
 ghost use Rattle.campl_cells.specs.Stands.{Naming};
 ghost use Rattle.campl_eval.specs.View.{code_of};
 ghost use Rattle.campl_parts.specs.Journal.{weight_of};
+ghost use Rattle.campl_solo.specs.Asking.{Searched};
 ghost use Rattle.campl_solo.specs.Beginning.{servings_at_start};
-ghost use Rattle.campl_solo.specs.Solos.{IsAtStart, IsRun, Ran, Steps};
+ghost use Rattle.campl_solo.specs.Solos.{IsAtStart, IsRun, Ran, Steps, Written};
 
 use campl_order::Schedule;
 use campl_parts::{Entry, Journal};
@@ -34,7 +35,7 @@ pub enum Stop {
 #[derive(Drop)]
 pub struct Solo {
     pub config: Config,
-    schedule: Schedule,
+    pub(crate) schedule: Schedule,
 }
 
 impl Solo {
@@ -54,7 +55,15 @@ impl Solo {
             → map (λ s. s.serving) services.items ≡ servings_at_start (services_of (world_of source)) scripts
             → IfOk result (IsAtStart source (code_of program.now) scripts) }
     {
-        Err(AllocError)
+        let channels = services.len();
+        let config = match Config::start(alloc, program, number, services) {
+            Ok(config) => config,
+            Err(error) => return Err(error),
+        };
+        match Schedule::start(alloc, channels, channels) {
+            Ok(schedule) => Ok(Solo { config, schedule }),
+            Err(error) => Err(error),
+        }
     }
 
     /// A step of the first who has one; `None` where nobody has.
@@ -67,7 +76,14 @@ impl Solo {
         ensures { (source : Source) (n : Naming) (c : Configuration) → IsRun source (code_of program.now) n c self.old
             → Steps source (code_of program.now) n c self.old self.new result }
     {
-        Err(AllocError)
+        while let Some(number) = self.schedule.first() {
+            match self.ask(alloc, program, number) {
+                Ok(None) => {}
+                Ok(Some(entry)) => return Ok(Some(entry)),
+                Err(error) => return Err(error),
+            }
+        }
+        Ok(None)
     }
 
     /// Steps until nobody has one, or until the journal's weight is the budget; the journal gets an entry for each.
@@ -87,6 +103,59 @@ impl Solo {
         ensures { (source : Source) (n : Naming) (c : Configuration) → IsRun source (code_of program.now) n c self.old
             → Ran source (code_of program.now) budget n c self.old self.new journal.old.entries journal.new.entries result }
     {
-        Err(AllocError)
+        while journal.weight() < budget {
+            match self.write_down(alloc, program, journal) {
+                Ok(true) => {}
+                Ok(false) => return Ok(Stop::Rested),
+                Err(error) => return Err(error),
+            }
+        }
+        match self.has_step(alloc, program) {
+            Ok(true) => Ok(Stop::Spent),
+            Ok(false) => Ok(Stop::Rested),
+            Err(error) => Err(error),
+        }
+    }
+
+    // A step of the first who has one, with its entry in the journal; whether somebody has one.
+    fn write_down(
+        &mut self,
+        alloc: Global,
+        program: &Program,
+        journal: &mut Journal,
+    ) -> Result<bool, AllocError>
+        requires run { (source : Source) × (n : Naming) × (c : Configuration) × IsRun source (code_of program.now) n c self.old }
+        requires within { weight_of journal.old.entries + 1 < 2 ^ 64 }
+        ensures { (source : Source) (n : Naming) (c : Configuration) → IsRun source (code_of program.now) n c self.old
+            → Written source (code_of program.now) n c self.old self.new journal.old.entries journal.new.entries result }
+    {
+        match journal.make_room(1) {
+            Ok(()) => {}
+            Err(error) => return Err(error),
+        }
+        match self.step(alloc, program) {
+            Ok(None) => Ok(false),
+            Ok(Some(entry)) => match journal.push(entry) {
+                Ok(()) => Ok(true),
+                Err(_) => Err(AllocError),
+            },
+            Err(error) => Err(error),
+        }
+    }
+
+    // Whether somebody has a step. Whoever is asked and has none is no longer flagged.
+    fn has_step(&mut self, alloc: Global, program: &Program) -> Result<bool, AllocError>
+        requires { (source : Source) × (n : Naming) × (c : Configuration) × IsRun source (code_of program.now) n c self.old }
+        ensures { (source : Source) (n : Naming) (c : Configuration) → IsRun source (code_of program.now) n c self.old
+            → Searched source (code_of program.now) n c self.old self.new result }
+    {
+        while let Some(number) = self.schedule.first() {
+            match self.look(alloc, program, number) {
+                Ok(false) => {}
+                Ok(true) => return Ok(true),
+                Err(error) => return Err(error),
+            }
+        }
+        Ok(false)
     }
 }

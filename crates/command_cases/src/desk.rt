@@ -60,6 +60,15 @@ impl Desk {
         Ok(self.bytes.push(b'\n')?)
     }
 
+    /// `lines N TEXT` gathers the text and a line feed so many times.
+    pub fn gather_lines(&mut self, rest: &str) -> Result<()> {
+        let (count, text) = rest.split_once(' ').context("a text is missing")?;
+        for _ in 0..number(Some(count))? {
+            self.gather_line(text)?;
+        }
+        Ok(())
+    }
+
     /// `piece TEXT` gathers the text.
     pub fn gather(&mut self, text: &str) -> Result<()> {
         Ok(self.bytes.extend_from_slice(text.as_bytes())?)

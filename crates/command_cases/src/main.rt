@@ -1,7 +1,8 @@
 //! Does what scripts say with the command and with texts, over memory and over the system's files, and prints what came out.
 //!
 //! The words name files of scripts. Each script begins with a line `== NAME`, has a shelf and two sinks of its own, and goes on with
-//! steps, one a line: `desk` has those that gather bytes and furnish shelf and sinks, `acts` those that print something.
+//! steps, one a line: `desk` has those that gather bytes and furnish shelf and sinks, `acts` those that print something. The scripts
+//! of `data/runs.txt`, and what is printed of them, are made by `tests/run_cases.py`.
 #![tactic(auto)]
 
 mod acts;
@@ -36,6 +37,7 @@ fn do_step<R: Threads + Sync + Files + AllocGlobal + Print>(
     let (step, rest) = line.split_once(' ').unwrap_or((line, ""));
     match step {
         "line" => desk.gather_line(rest),
+        "lines" => desk.gather_lines(rest),
         "piece" => desk.gather(rest),
         "times" => desk.gather_times(rest),
         "byte" => desk.gather_byte(rest),

@@ -1,6 +1,6 @@
 //! Journals.
 use anyhow::{Result, bail};
-use campl_config::{Entry, Journal, Kind};
+use campl_parts::{Entry, Journal, Kind};
 use campl_value::Message;
 use std::alloc::Global;
 use std::io::Write;

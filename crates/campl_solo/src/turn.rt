@@ -1,0 +1,120 @@
+//! The turn of one: its step by its first branch that is ready, if it has one.
+ghost use Rattle.std.specs.Prelude.{◌≡◌, ℕ};
+ghost use Rattle.campl_tree.specs.Plain.Decl.{Program as Source};
+ghost use Rattle.campl_meaning.specs.Reductions.{Configuration};
+ghost use Rattle.campl_cells.specs.Stands.{Naming, Wired};
+ghost use Rattle.campl_eval.specs.View.{code_of};
+ghost use Rattle.campl_steps.specs.Configs as configs;
+ghost use Rattle.campl_steps.specs.Configs.{parts};
+ghost use Rattle.campl_solo.specs.Asking.{Asked, HasBranch, IsFirst, Looked, Turned};
+ghost use Rattle.campl_solo.specs.Solos.{IsRun};
+
+use crate::solo::Solo;
+use crate::tables::{grow, rest, wake_all};
+use campl_parts::Entry;
+use campl_program::Program;
+use campl_steps::{Config, Made};
+use std::alloc::{AllocError, Global};
+
+impl Solo {
+    /// The step of this one, the first that is flagged, if it has one; it is no longer flagged else.
+    pub(crate) fn ask(
+        &mut self,
+        alloc: Global,
+        program: &Program,
+        number: u32,
+    ) -> Result<Option<Entry>, AllocError>
+        requires { (source : Source) × (n : Naming) × (c : Configuration) × IsRun source (code_of program.now) n c self.old × IsFirst n self.old number }
+        ensures { (source : Source) (n : Naming) (c : Configuration) → IsRun source (code_of program.now) n c self.old → IsFirst n self.old number
+            → Asked source (code_of program.now) n c self.old self.new result }
+    {
+        match self.schedule.make_room(alloc) {
+            Ok(()) => {}
+            Err(error) => return Err(error),
+        }
+        let count = match self.config.branches(program, number) {
+            Ok(count) => count,
+            Err(error) => return Err(error),
+        };
+        match first_step(&mut self.config, alloc, program, number, count) {
+            Ok(None) => {
+                rest(&mut self.schedule, &self.config, program, number, count);
+                Ok(None)
+            }
+            Ok(Some(made)) => {
+                let born = self.config.steps(number);
+                grow(&mut self.schedule, number, born, &made.entry);
+                wake_all(&mut self.schedule, made.changed);
+                let Made { entry, changed: _ } = made;
+                Ok(Some(entry))
+            }
+            Err(error) => Err(error),
+        }
+    }
+
+    /// Whether this one, the first that is flagged, has a step; where it has none, it is no longer flagged.
+    pub(crate) fn look(
+        &mut self,
+        alloc: Global,
+        program: &Program,
+        number: u32,
+    ) -> Result<bool, AllocError>
+        requires { (source : Source) × (n : Naming) × (c : Configuration) × IsRun source (code_of program.now) n c self.old × IsFirst n self.old number }
+        ensures { (source : Source) (n : Naming) (c : Configuration) → IsRun source (code_of program.now) n c self.old → IsFirst n self.old number
+            → Looked source (code_of program.now) n c self.old self.new result }
+    {
+        let count = match self.config.branches(program, number) {
+            Ok(count) => count,
+            Err(error) => return Err(error),
+        };
+        match has_branch(&self.config, alloc, program, number, count) {
+            Ok(false) => {
+                rest(&mut self.schedule, &self.config, program, number, count);
+                Ok(false)
+            }
+            Ok(true) => Ok(true),
+            Err(error) => Err(error),
+        }
+    }
+}
+
+// The step by the first of so many branches that is ready.
+fn first_step(
+    config: &mut Config,
+    alloc: Global,
+    program: &Program,
+    number: u32,
+    count: u32,
+) -> Result<Option<Made>, AllocError>
+    requires { Wired (parts config.old) }
+    ensures { Turned (code_of program.now) number count config.old config.new result }
+{
+    for branch in 0..count {
+        match config.step(alloc, program, number, branch) {
+            Ok(None) => {}
+            Ok(Some(made)) => return Ok(Some(made)),
+            Err(error) => return Err(error),
+        }
+    }
+    Ok(None)
+}
+
+// Whether one of so many branches is ready.
+fn has_branch(
+    config: &Config,
+    alloc: Global,
+    program: &Program,
+    number: u32,
+    count: u32,
+) -> Result<bool, AllocError>
+    ensures { HasBranch (code_of program.now) (configs.drawn config.now) (parts config.now) number count result }
+{
+    for branch in 0..count {
+        match config.can_step(alloc, program, number, branch) {
+            Ok(false) => {}
+            Ok(true) => return Ok(true),
+            Err(error) => return Err(error),
+        }
+    }
+    Ok(false)
+}
