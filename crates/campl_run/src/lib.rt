@@ -17,5 +17,6 @@ mod running;
 mod services;
 
 pub use ended::Ended;
+pub use number::number_of_run;
 pub use running::{Ran, run};
-pub use services::services_of;
+pub use services::{services_at_start, services_of};

@@ -14,7 +14,7 @@ use std::alloc::{AllocError, Global};
 ///
 /// `AllocError` where memory wants. Where there is no `run` it is answered too, but each accepted source has one.
 #[tactic(auto, using(crate::proofs::Counting::letters))]
-pub(crate) fn number_of_run(alloc: Global, world: &World) -> Result<u32, AllocError>
+pub fn number_of_run(alloc: Global, world: &World) -> Result<u32, AllocError>
     ensures { IfOk result (λ number. process_number (map view_decl world.now) (codes "run") ≡ Some number) }
 {
     match Name::of(alloc, "run") {

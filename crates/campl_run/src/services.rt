@@ -39,7 +39,7 @@ fn push_names(
 
 /// The services of these names at the start, each with its script. An error means that memory is out, or that there are 2^32 names
 /// or more.
-pub(crate) fn services_at_start(
+pub fn services_at_start(
     alloc: Global,
     names: &[ServiceName],
     mut scripts: Scripts,

@@ -2,7 +2,10 @@ pub mod Able
 pub mod Applied
 pub mod Arms
 pub mod Attending
+pub mod Called
+pub mod Drawing
 pub mod Making
+pub mod Seen
 pub mod Since
 pub mod Starting
 pub mod Swapped

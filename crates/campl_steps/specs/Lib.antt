@@ -1,6 +1,10 @@
 pub mod Begins
 pub mod Configs
 pub mod Doing
+pub mod Looks
+pub mod Outlook
 pub mod Readiness
 pub mod Stepping
+pub mod Suiting
 pub mod Watching
+pub mod Works

@@ -68,7 +68,7 @@ impl Config {
     }
 
     // The message that can be taken at an end: the oldest, where the end has a peer.
-    fn first_at(&self, end: u32) -> Option<&Message>
+    pub(crate) fn first_at(&self, end: u32) -> Option<&Message>
         ensures { option_copied result ≡ first_at (or_bare (tips self.now.ends.items end)).peer (or_bare (tips self.now.ends.items end)).inbox }
     {
         let ends = self.ends.as_slice();

@@ -1,5 +1,5 @@
 //! On which ends a process or service waits, and how many branches it has.
-ghost use Rattle.std.specs.Prelude.{◌≡◌, ◌≤◌, ◌<◌, ◌^◌, ℕ, Some, IfOk, length, option_map, slice_get};
+ghost use Rattle.std.specs.Prelude.{◌≡◌, ◌≤◌, ◌<◌, ◌^◌, ℕ, [], ◌∷◌, Some, IfOk, length, option_map, slice_get};
 ghost use Rattle.campl_code.specs.Instructions.{blocks};
 ghost use Rattle.campl_code.specs.Machine.{code_at};
 ghost use Rattle.campl_eval.specs.View.{code_of};
@@ -9,17 +9,18 @@ ghost use Rattle.campl_instructions.specs.View.{view_instr};
 ghost use Rattle.campl_parts.specs.Tables.{procs};
 ghost use Rattle.campl_parts.specs.Views.{drawn_of, held_of, life_of};
 ghost use Rattle.campl_parts.specs.Wanted.{want_of};
+ghost use Rattle.campl_steps.specs.Looks.{waited_at, waited_by};
 ghost use Rattle.campl_steps.specs.Watching.{IsNoBranch, ends_waited, targets_at, targets_kept, targets_of, watched};
 
 use crate::config::Config;
 use campl_instructions::Instr;
 use campl_kept::Kept;
-use campl_parts::{Drawn, Life, Running, Want};
+use campl_parts::{Drawn, Life, ProcPart, Running, Want};
 use campl_program::Program;
 use std::alloc::AllocError;
 
 /// The numbers that nothing bears, since nothing is done with them.
-const NONE_DRAWN: Drawn = Drawn {
+pub(crate) const NONE_DRAWN: Drawn = Drawn {
     child: 0,
     channel: 0,
     channel2: 0,
@@ -41,7 +42,18 @@ impl Config {
     {
         match self.processes.get(number as usize) {
             None => Waits::Nothing,
-            Some(part) => waits_of(part.want(program, NONE_DRAWN, branch)),
+            Some(part) => waits_as(program, part, branch),
+        }
+    }
+
+    /// The end on which a process or service waits as the one with this place, from 0: a race on one for each branch, in their
+    /// order, and an identity on two. None where there are no more, and where it waits for nothing.
+    pub fn waits_on(&self, program: &Program, number: u32, i: u32) -> Option<u32>
+        ensures { (d : Numbers) → result ≡ waited_at (code_of program.now) d (procs self.now.processes.items number) i }
+    {
+        match self.processes.get(number as usize) {
+            None => None,
+            Some(part) => waited(program, part, i),
         }
     }
 
@@ -62,6 +74,12 @@ impl Config {
     }
 }
 
+fn waits_as(program: &Program, part: &ProcPart, branch: u32) -> Waits
+    ensures { (d : Numbers) → ends_waited result ≡ watched (wanted (code_of program.now) d (life_of part.now.life) branch) }
+{
+    waits_of(part.want(program, NONE_DRAWN, branch))
+}
+
 fn waits_of(want: Want<'_>) -> Waits
     ensures { ends_waited result ≡ watched (want_of want.entry) }
 {
@@ -73,6 +91,52 @@ fn waits_of(want: Want<'_>) -> Waits
         Want::Hears { end, .. } => Waits::One(end),
         Want::Says { .. } => Waits::Nothing,
     }
+}
+
+fn waited(program: &Program, part: &ProcPart, i: u32) -> Option<u32>
+    ensures { (d : Numbers) → result ≡ waited_by (targets_of (code_of program.now) (life_of part.now.life)) (wanted (code_of program.now) d (life_of part.now.life)) i }
+{
+    if targets(program, &part.life) == 0 {
+        return end_at(waits_as(program, part, 0), i);
+    }
+    end_at(waits_as(program, part, i), 0)
+}
+
+// One of the ends on which one waits.
+fn end_at(waits: Waits, i: u32) -> Option<u32>
+    ensures { result ≡ slice_get (ends_waited waits) i }
+{
+    match waits {
+        Waits::Nothing => None,
+        Waits::One(end) => { if i == 0 { Some(end) } else { None } }
+        Waits::Two(end, second) => one_of(end, second, i),
+    }
+}
+
+fn one_of(end: u32, second: u32, i: u32) -> Option<u32>
+    ensures { result ≡ slice_get (end ∷ second ∷ []) i }
+{
+    if i == 0 {
+        return Some(end);
+    }
+    if i == 1 {
+        return Some(second);
+    }
+    None
+}
+
+// The last branch that there may be, of those that have a number.
+pub(crate) fn last_branch(program: &Program, life: &Life) -> u32
+    ensures { (d : Numbers) (i : ℕ) → result < i → i < 2 ^ 32 → IsNoBranch (wanted (code_of program.now) d (life_of life.now)) i }
+{
+    let targets = targets(program, life);
+    if targets > 0xffff_ffff {
+        return 0xffff_ffff;
+    }
+    if targets == 0 {
+        return 0;
+    }
+    targets as u32 - 1
 }
 
 // How many branches there are to these places.
