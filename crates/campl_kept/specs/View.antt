@@ -9,13 +9,13 @@ use Rattle.campl_kept.specs.declared.kept.Kept.TheVariants as K
 
 abbrev pub view_kept : Kept → k.Kept
 view_kept (K.Values at variables values) = k.Values at variables values.items
-view_kept (K.AtCall eval) = k.AtCall (seen eval.machine.frame) (seens eval.machine.callers)
+view_kept (K.AtCall eval) = k.AtCall (seen eval.value.machine.frame) (seens eval.value.machine.callers)
 view_kept K.Broken = k.Broken
 
 -- memory was out
 abbrev pub is_lost : Kept → Bool
 is_lost (K.Values at variables values) = false
-is_lost (K.AtCall eval) = eval.is_out
+is_lost (K.AtCall eval) = eval.value.is_out
 is_lost K.Broken = false
 
 -- these values, at this place and with these variables

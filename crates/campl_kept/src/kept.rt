@@ -2,11 +2,12 @@
 ghost use Rattle.std.specs.Prelude.{◌≡◌, [], true, false, IfOk, OnOk, OnErr};
 ghost use Rattle.campl_code.specs.Frames.{frame_at};
 ghost use Rattle.campl_code_bodies.specs.Commands.{Cell};
-ghost use Rattle.campl_code_bodies.specs.Kept.{IsKept, spent_more};
+ghost use Rattle.campl_code_bodies.specs.Kept.{AtCall as at_call, IsKept, spent_more};
 ghost use Rattle.campl_eval.specs.View.{code_of, seen, seens};
 ghost use Rattle.campl_kept.specs.View.{view_kept, is_lost, came_to, IsValues};
 ghost use Rattle.campl_kept.specs.Keeps.{Keeps};
 
+use crate::command::is_at_command;
 use campl_eval::{Eval, Turn};
 use campl_operands::{Variables, copies};
 use campl_program::Program;
@@ -15,7 +16,6 @@ use std::alloc::{AllocError, Global};
 use std::mem;
 
 /// An evaluation that has gone on as far as its calls reach.
-#[derive(Drop)]
 pub enum Kept {
     /// It is at the process's instruction at this place, with the process's variables, and the values of the instruction's
     /// expressions in their order.
@@ -24,10 +24,27 @@ pub enum Kept {
         variables: Variables,
         values: Vec<Value>,
     },
-    /// It stands before a call.
-    AtCall(Eval),
+    /// It stands before a call. The evaluation is big, and few steps move it: it has a place of its own.
+    AtCall(Box<Eval>),
     /// A value would be too deep, or an instruction can't be done.
     Broken,
+}
+
+impl Drop for Kept {
+    fn drop(self) {
+        match self {
+            Kept::Values {
+                at: _,
+                variables,
+                values,
+            } => {
+                drop(variables);
+                drop(values);
+            }
+            Kept::AtCall(eval) => drop(eval),
+            Kept::Broken => {}
+        }
+    }
 }
 
 impl Kept {
@@ -42,12 +59,14 @@ impl Kept {
     ) -> Result<Kept, AllocError>
         ensures { IfOk result (λ kept. Keeps (code_of program.now) (frame_at block at variables) [] 0 (view_kept kept)) }
     {
-        let mut eval = Eval::start(alloc, block, at, variables);
-        match go_on(alloc, program, &mut eval, 0) {
-            Err(error) => Err(error),
-            Ok(Some(kept)) => Ok(kept),
-            Ok(None) => Ok(Kept::AtCall(eval)),
+        if is_at_command(program, block, at) {
+            return Ok(Kept::Values {
+                at,
+                variables,
+                values: Vec::new(alloc),
+            });
         }
+        evaluate(alloc, program, block, at, variables)
     }
 
     /// Gives so many more calls, which change nothing but where it stands before one. The error means that memory is out, and
@@ -65,7 +84,7 @@ impl Kept {
         let came = match self {
             Kept::Values { .. } => return Ok(()),
             Kept::Broken => return Ok(()),
-            Kept::AtCall(eval) => match go_on(alloc, program, eval, calls) {
+            Kept::AtCall(eval) => match go_on(alloc, program, eval.as_mut(), calls) {
                 Err(error) => return Err(error),
                 Ok(came) => came,
             },
@@ -88,10 +107,7 @@ impl Kept {
                 variables,
                 values,
             } => copy_values(alloc, *at, variables, values.as_slice()),
-            Kept::AtCall(eval) => match eval.copy(alloc) {
-                Err(error) => Err(error),
-                Ok(eval) => Ok(Kept::AtCall(eval)),
-            },
+            Kept::AtCall(eval) => copy_call(alloc, eval.as_ref()),
             Kept::Broken => Ok(Kept::Broken),
         }
     }
@@ -117,6 +133,46 @@ fn copy_values(
         variables,
         values,
     })
+}
+
+// A copy of what stands before a call.
+fn copy_call(alloc: Global, eval: &Eval) -> Result<Kept, AllocError>
+    ensures kept { IfOk result (λ copy. view_kept copy ≡ at_call (seen eval.now.machine.frame) (seens eval.now.machine.callers)) }
+    ensures lost { IfOk result (λ copy. is_lost copy ≡ eval.now.is_out) }
+{
+    match eval.copy(alloc) {
+        Err(error) => Err(error),
+        Ok(copy) => before_call(alloc, copy),
+    }
+}
+
+// An evaluation that stands before a call.
+fn before_call(alloc: Global, eval: Eval) -> Result<Kept, AllocError>
+    ensures kept { IfOk result (λ kept. view_kept kept ≡ at_call (seen eval.machine.frame) (seens eval.machine.callers)) }
+    ensures lost { IfOk result (λ kept. is_lost kept ≡ eval.is_out) }
+{
+    match Box::new(alloc, eval) {
+        Err(_) => Err(AllocError),
+        Ok(eval) => Ok(Kept::AtCall(eval)),
+    }
+}
+
+// The same by the machine, as far as the first call.
+fn evaluate(
+    alloc: Global,
+    program: &Program,
+    block: usize,
+    at: usize,
+    variables: Variables,
+) -> Result<Kept, AllocError>
+    ensures { IfOk result (λ kept. Keeps (code_of program.now) (frame_at block at variables) [] 0 (view_kept kept)) }
+{
+    let mut eval = Eval::start(alloc, block, at, variables);
+    match go_on(alloc, program, &mut eval, 0) {
+        Err(error) => Err(error),
+        Ok(Some(kept)) => Ok(kept),
+        Ok(None) => before_call(alloc, eval),
+    }
 }
 
 // Gives an evaluation so many more calls. What it came to is answered, or nothing where it stands before a call again.

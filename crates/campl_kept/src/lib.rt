@@ -9,6 +9,7 @@
 //! ```
 #![tactic(auto)]
 
+mod command;
 mod kept;
 
 pub use kept::Kept;

@@ -16,10 +16,10 @@ returns-in-Broken-clause-kept c =
 
 pub returns-in-None-clause-kept : goal.returns-in-None-clause-kept
 returns-in-None-clause-kept c =
-    let keeps = rw c.in-None.is at c.in-Ok.ensures.came in
-    λ cell is. goes-on (code_of c.args.program.now) cell (seen c.in-AtCall.eval.machine.frame) (seens c.in-AtCall.eval.machine.callers) c.args.calls _ keeps (rw c.in-AtCall.is at is)
+    let keeps = rw (c.in-None.is, c.as_mut.ensures.value) at c.in-Ok.ensures.came in
+    λ cell is. goes-on (code_of c.args.program.now) cell (seen c.in-AtCall.eval.value.machine.frame) (seens c.in-AtCall.eval.value.machine.callers) c.args.calls _ keeps (rw c.in-AtCall.is at is)
 
 pub returns-in-Some-clause-kept : goal.returns-in-Some-clause-kept
 returns-in-Some-clause-kept c =
-    let keeps = rw c.in-Some.is at c.in-Ok.ensures.came in
-    λ cell is. goes-on (code_of c.args.program.now) cell (seen c.in-AtCall.eval.machine.frame) (seens c.in-AtCall.eval.machine.callers) c.args.calls (view_kept c.in-Some.kept) keeps (rw c.in-AtCall.is at is)
+    let keeps = rw (c.in-Some.is, c.as_mut.ensures.value) at c.in-Ok.ensures.came in
+    λ cell is. goes-on (code_of c.args.program.now) cell (seen c.in-AtCall.eval.value.machine.frame) (seens c.in-AtCall.eval.value.machine.callers) c.args.calls (view_kept c.in-Some.kept) keeps (rw c.in-AtCall.is at is)
