@@ -8,7 +8,7 @@ ghost use Rattle.campl_kept.specs.View.{view_kept, is_lost, came_to, IsValues};
 ghost use Rattle.campl_kept.specs.Keeps.{Keeps};
 
 use crate::command::is_at_command;
-use campl_eval::{Eval, Turn};
+use campl_eval::{Eval, Frame, Machine, Turn};
 use campl_operands::{Variables, copies};
 use campl_program::Program;
 use campl_value::Value;
@@ -168,10 +168,38 @@ fn evaluate(
     ensures { IfOk result (λ kept. Keeps (code_of program.now) (frame_at block at variables) [] 0 (view_kept kept)) }
 {
     let mut eval = Eval::start(alloc, block, at, variables);
-    match go_on(alloc, program, &mut eval, 0) {
+    match eval.run(alloc, program, 0) {
         Err(error) => Err(error),
-        Ok(Some(kept)) => Ok(kept),
-        Ok(None) => before_call(alloc, eval),
+        Ok(Turn::More) => before_call(alloc, eval),
+        Ok(Turn::Done(values, _)) => Ok(values_from(eval, values)),
+        Ok(Turn::TooDeep(_)) => Ok(Kept::Broken),
+        Ok(Turn::Faulty(_)) => Ok(Kept::Broken),
+    }
+}
+
+// The values with the place and the variables of an evaluation that is over.
+fn values_from(eval: Eval, values: Vec<Value>) -> Kept
+    ensures { IsValues result eval.machine.frame.at eval.machine.frame.variables values.items }
+{
+    let Eval { machine, .. } = eval;
+    let Machine {
+        frame,
+        callers,
+        spare,
+    } = machine;
+    drop(callers);
+    drop(spare);
+    let Frame {
+        at,
+        variables,
+        operands,
+        ..
+    } = frame;
+    drop(operands);
+    Kept::Values {
+        at,
+        variables,
+        values,
     }
 }
 
