@@ -1,24 +1,146 @@
-//! Which places are those of commands.
-ghost use Rattle.std.specs.Prelude.{◌≡◌, slice_get};
+//! Commands whose expressions are variables and literals: their values are made without an evaluation.
+ghost use Rattle.std.specs.Prelude.{◌≡◌, ◌≤◌, ◌+◌, [], IfOk, IfSome, drop, length, map, option_map, slice_get};
+ghost use Rattle.std.specs.Option.{option_copied};
+ghost use Rattle.campl_code.specs.Frames.{frame_at};
 ghost use Rattle.campl_code.specs.Instructions.{blocks};
 ghost use Rattle.campl_code.specs.Machine as m;
+ghost use Rattle.campl_code_bodies.specs.Kept.{Values as values_kept};
 ghost use Rattle.campl_eval.specs.View.{code_of};
-ghost use Rattle.campl_instructions.specs.View.{view_instr};
-ghost use Rattle.campl_kept.specs.Keeps.{begins_command};
+ghost use Rattle.campl_instructions.specs.View.{view_block, view_instr};
+ghost use Rattle.campl_kept.specs.Keeps.{Keeps};
+ghost use Rattle.campl_kept.specs.Plain as p;
 
-use campl_instructions::Instr;
+use campl_instructions::{Block, Instr};
+use campl_operands::Variables;
 use campl_program::Program;
+use campl_value::Value;
+use sqlite_items::at;
+use std::alloc::{AllocError, Global};
 
-/// Whether this place of a block is that of a process's instruction, before which nothing is to be evaluated.
-pub(crate) fn is_at_command(program: &Program, block: usize, at: usize) -> bool
-    ensures { result ≡ begins_command (m.code_at (slice_get (blocks (code_of program.now)) block) at) }
+/// How many instructions come before the command at this place of a block, and the values that they make; None where they aren't
+/// all variables and literals. An error means that memory is out.
+pub(crate) fn plain_values(
+    alloc: Global,
+    program: &Program,
+    block: usize,
+    at: usize,
+    variables: &Variables,
+) -> Result<Option<(usize, Vec<Value>)>, AllocError>
+    ensures { IfOk result (λ found. IfSome found (λ f. Keeps (code_of program.now) (frame_at block at variables.now) [] 0 (values_kept (at + f.0) variables.now f.1.items))) }
 {
-    match program.instr(block, at) {
-        None => false,
-        Some(instr) => is_command(instr),
+    let code = code_from(program, block, at);
+    let Some(n) = reach(code) else {
+        return Ok(None);
+    };
+    match all_plain(alloc, &code[..n], variables) {
+        Err(error) => Err(error),
+        Ok(None) => Ok(None),
+        Ok(Some(values)) => Ok(Some((n, values))),
     }
 }
 
+// The code of a block from a place on. A block that isn't there has none.
+#[tactic(auto, using(crate::proofs::Commands::places))]
+fn code_from(program: &Program, block: usize, at: usize) -> &[Instr]
+    ensures { map view_instr result.now ≡ drop at (p.code_in (slice_get (blocks (code_of program.now)) block)) }
+{
+    match block_at(program, block) {
+        None => &[],
+        Some(block) => from(block.code.as_slice(), at),
+    }
+}
+
+// The block with this number. Functions are numbered first, then processes.
+fn block_at(program: &Program, n: usize) -> Option<&Block>
+    ensures { option_map view_block (option_copied result) ≡ slice_get (blocks (code_of program.now)) n }
+{
+    let raw = program.raw();
+    let functions = raw.functions.as_slice();
+    if n < functions.len() {
+        return at(functions, n);
+    }
+    at(raw.processes.as_slice(), n - functions.len())
+}
+
+// The instructions from this one on.
+fn from(code: &[Instr], at: usize) -> &[Instr]
+    ensures { result.now ≡ drop at code.now }
+{
+    let at = at.min(code.len());
+    &code[at..]
+}
+
+// How many instructions are before the command, where they are all variables and literals.
+fn reach(code: &[Instr]) -> Option<usize>
+    ensures value { result ≡ p.reach (map view_instr code.now) }
+    ensures within { IfSome result (λ n. n ≤ length code.now) }
+{
+    for (n, instr) in code.iter().enumerate() {
+        if is_command(instr) {
+            return Some(n);
+        }
+        if !is_plain(instr) {
+            return None;
+        }
+    }
+    None
+}
+
+// The values of variables and literals. An error means that memory is out.
+#[tactic(auto, using(crate::proofs::Commands::copying))]
+fn all_plain(
+    alloc: Global,
+    code: &[Instr],
+    variables: &Variables,
+) -> Result<Option<Vec<Value>>, AllocError>
+    ensures { IfOk result (λ values. option_map (λ v. v.items) values ≡ p.all_plain variables.now (map view_instr code.now)) }
+{
+    let mut values = Vec::new(alloc);
+    for instr in code {
+        match plain(variables, instr) {
+            Err(error) => return Err(error),
+            Ok(None) => return Ok(None),
+            Ok(Some(value)) => values.push(value)?,
+        }
+    }
+    Ok(Some(values))
+}
+
+fn plain(variables: &Variables, instr: &Instr) -> Result<Option<Value>, AllocError>
+    ensures { IfOk result (λ value. value ≡ p.plain variables.now (view_instr instr.now)) }
+{
+    match instr {
+        Instr::Int(n) => Ok(Some(Value::int(*n))),
+        Instr::Char(c) => Ok(Some(Value::character(*c))),
+        Instr::Truth(b) => Ok(Some(Value::truth(*b))),
+        Instr::Nil => Ok(Some(Value::nil())),
+        Instr::Load(n) => load(variables, *n),
+        _ => Ok(None),
+    }
+}
+
+fn load(variables: &Variables, n: u32) -> Result<Option<Value>, AllocError>
+    ensures { IfOk result (λ value. value ≡ slice_get variables.now n) }
+{
+    match variables.get(n) {
+        None => Ok(None),
+        Some(value) => match value.copy() {
+            Err(error) => Err(error),
+            Ok(value) => Ok(Some(value)),
+        },
+    }
+}
+
+fn is_plain(instr: &Instr) -> bool
+    ensures { result ≡ p.is_plain (view_instr instr.now) }
+{
+    match instr {
+        Instr::Int(_) | Instr::Char(_) | Instr::Truth(_) | Instr::Nil | Instr::Load(_) => true,
+        _ => false,
+    }
+}
+
+// Whether it is a process's instruction.
 fn is_command(instr: &Instr) -> bool
     ensures { result ≡ m.is_command (view_instr instr.now) }
 {

@@ -7,7 +7,7 @@ ghost use Rattle.campl_eval.specs.View.{code_of, seen, seens};
 ghost use Rattle.campl_kept.specs.View.{view_kept, is_lost, came_to, IsValues};
 ghost use Rattle.campl_kept.specs.Keeps.{Keeps};
 
-use crate::command::is_at_command;
+use crate::command::plain_values;
 use campl_eval::{Eval, Frame, Machine, Turn};
 use campl_operands::{Variables, copies};
 use campl_program::Program;
@@ -59,14 +59,18 @@ impl Kept {
     ) -> Result<Kept, AllocError>
         ensures { IfOk result (λ kept. Keeps (code_of program.now) (frame_at block at variables) [] 0 (view_kept kept)) }
     {
-        if is_at_command(program, block, at) {
-            return Ok(Kept::Values {
-                at,
-                variables,
-                values: Vec::new(alloc),
-            });
+        match plain_values(alloc, program, block, at, &variables) {
+            Err(error) => Err(error),
+            Ok(None) => evaluate(alloc, program, block, at, variables),
+            Ok(Some((n, values))) => match at.checked_add(n) {
+                None => evaluate(alloc, program, block, at, variables),
+                Some(at) => Ok(Kept::Values {
+                    at,
+                    variables,
+                    values,
+                }),
+            },
         }
-        evaluate(alloc, program, block, at, variables)
     }
 
     /// Gives so many more calls, which change nothing but where it stands before one. The error means that memory is out, and
