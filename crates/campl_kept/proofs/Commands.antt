@@ -6,8 +6,8 @@ use Rattle.campl_code.specs.Decisions.{with_first}
 use Rattle.campl_code.specs.Instructions.{Instr, Block, Code, blocks}
 use Rattle.campl_code.specs.Instructions as i
 use Rattle.campl_code.specs.Frames.{Frame, frame_at}
-use Rattle.campl_code.specs.Machine.{Next, Goes, Gives, act, code_at, does, fetch, gives, is_command}
-use Rattle.campl_code.specs.Runs.{Outcome, Gave, IsOver, goes_on, run}
+use Rattle.campl_code.specs.Machine.{Next, Goes, Gives, act, code_at, does, fetch, is_command}
+use Rattle.campl_code.specs.Runs.{Gave, IsOver, goes_on, run}
 use Rattle.campl_code_bodies.specs.Kept.{Values, kept_of}
 use Rattle.campl_instructions.specs.View.{view_instr}
 use Rattle.campl_instructions.specs.declared.instr.Instr as r
@@ -153,8 +153,14 @@ module _ (code : Code) (block : ℕ) (vars : List Tree) where
   ends (x ∷ is) at n stack vs here r p = one-more x is (ends is) (is_command x) (is_plain x) refl refl at n stack vs here r p
 
   -- what is kept there
-  pub plainly : (xs : List r.Instr) (at n : ℕ) (vs : List Tree) → map view_instr xs ≡ drop at all → Some n ≡ reach (map view_instr xs) → Some vs ≡ all_plain vars (map view_instr (take n xs))
-      → Keeps code (frame_at block at vars) [] 0 (Values (at + n) vars vs)
-  plainly xs at n vs here r p =
+  pub plainly : (xs : List r.Instr) (at n to : ℕ) (vs : List Tree) → map view_instr xs ≡ drop at all → Some n ≡ reach (map view_instr xs) → Some vs ≡ all_plain vars (map view_instr (take n xs)) → to ≡ at + n
+      → Keeps code (frame_at block at vars) [] 0 (Values to vars vs)
+  plainly xs at n to vs here r p place =
       let run-is = ends (map view_instr xs) at n [] vs here (sym r) (ap (all_plain vars) (sym (map-take n xs)) ∙ sym p) in
-      (suc n, subst IsOver (sym run-is) tt, ap kept_of (sym run-is))
+      (suc n, subst IsOver (sym run-is) tt, ap (λ m. Values m vars vs) place ∙ ap kept_of (sym run-is))
+
+  -- without any
+  pub at-once : (xs : List r.Instr) (at n : ℕ) (vs : List Tree) → map view_instr xs ≡ drop at all → Some n ≡ reach (map view_instr xs) → n ≡ 0 → vs ≡ []
+      → Keeps code (frame_at block at vars) [] 0 (Values at vars vs)
+  at-once xs at zero vs here r z none = plainly xs at zero at vs here r (ap Some none) (omega arith)
+  at-once xs at (suc n) vs here r z none = absurd (cc z)

@@ -1,5 +1,5 @@
 -- Commands whose expressions are variables and literals.
-use Rattle.std.specs.Prelude.{◌≡◌, ℕ, suc, Bool, true, false, List, [], ◌∷◌, take, Option, Some, None, option_map, slice_get, if◌then◌else◌}
+use Rattle.std.specs.Prelude.{ℕ, suc, Bool, true, false, List, [], ◌∷◌, Option, Some, None, option_map, slice_get, if◌then◌else◌}
 use Rattle.campl_value.specs.Tree.{Tree, Int, Char, Truth, Nil}
 use Rattle.campl_code.specs.Instructions.{Instr, Block}
 use Rattle.campl_code.specs.Instructions as i

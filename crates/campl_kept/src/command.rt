@@ -1,13 +1,10 @@
 //! Commands whose expressions are variables and literals: their values are made without an evaluation.
-ghost use Rattle.std.specs.Prelude.{◌≡◌, ◌≤◌, ◌+◌, [], IfOk, IfSome, drop, length, map, option_map, slice_get};
+ghost use Rattle.std.specs.Prelude.{◌≡◌, ◌≤◌, IfOk, IfSome, drop, length, map, option_map, slice_get};
 ghost use Rattle.std.specs.Option.{option_copied};
-ghost use Rattle.campl_code.specs.Frames.{frame_at};
 ghost use Rattle.campl_code.specs.Instructions.{blocks};
 ghost use Rattle.campl_code.specs.Machine as m;
-ghost use Rattle.campl_code_bodies.specs.Kept.{Values as values_kept};
 ghost use Rattle.campl_eval.specs.View.{code_of};
 ghost use Rattle.campl_instructions.specs.View.{view_block, view_instr};
-ghost use Rattle.campl_kept.specs.Keeps.{Keeps};
 ghost use Rattle.campl_kept.specs.Plain as p;
 
 use campl_instructions::{Block, Instr};
@@ -17,31 +14,10 @@ use campl_value::Value;
 use sqlite_items::at;
 use std::alloc::{AllocError, Global};
 
-/// How many instructions come before the command at this place of a block, and the values that they make; None where they aren't
-/// all variables and literals. An error means that memory is out.
-pub(crate) fn plain_values(
-    alloc: Global,
-    program: &Program,
-    block: usize,
-    at: usize,
-    variables: &Variables,
-) -> Result<Option<(usize, Vec<Value>)>, AllocError>
-    ensures { IfOk result (λ found. IfSome found (λ f. Keeps (code_of program.now) (frame_at block at variables.now) [] 0 (values_kept (at + f.0) variables.now f.1.items))) }
-{
-    let code = code_from(program, block, at);
-    let Some(n) = reach(code) else {
-        return Ok(None);
-    };
-    match all_plain(alloc, &code[..n], variables) {
-        Err(error) => Err(error),
-        Ok(None) => Ok(None),
-        Ok(Some(values)) => Ok(Some((n, values))),
-    }
-}
-
-// The code of a block from a place on. A block that isn't there has none.
+/// The code of a block from a place on. A block that isn't there has none.
+#[inline]
 #[tactic(auto, using(crate::proofs::Commands::places))]
-fn code_from(program: &Program, block: usize, at: usize) -> &[Instr]
+pub(crate) fn code_from(program: &Program, block: usize, at: usize) -> &[Instr]
     ensures { map view_instr result.now ≡ drop at (p.code_in (slice_get (blocks (code_of program.now)) block)) }
 {
     match block_at(program, block) {
@@ -51,6 +27,7 @@ fn code_from(program: &Program, block: usize, at: usize) -> &[Instr]
 }
 
 // The block with this number. Functions are numbered first, then processes.
+#[inline]
 fn block_at(program: &Program, n: usize) -> Option<&Block>
     ensures { option_map view_block (option_copied result) ≡ slice_get (blocks (code_of program.now)) n }
 {
@@ -63,6 +40,7 @@ fn block_at(program: &Program, n: usize) -> Option<&Block>
 }
 
 // The instructions from this one on.
+#[inline]
 fn from(code: &[Instr], at: usize) -> &[Instr]
     ensures { result.now ≡ drop at code.now }
 {
@@ -70,8 +48,9 @@ fn from(code: &[Instr], at: usize) -> &[Instr]
     &code[at..]
 }
 
-// How many instructions are before the command, where they are all variables and literals.
-fn reach(code: &[Instr]) -> Option<usize>
+/// How many instructions are before the command, where they are all variables and literals.
+#[inline]
+pub(crate) fn reach(code: &[Instr]) -> Option<usize>
     ensures value { result ≡ p.reach (map view_instr code.now) }
     ensures within { IfSome result (λ n. n ≤ length code.now) }
 {
@@ -86,9 +65,9 @@ fn reach(code: &[Instr]) -> Option<usize>
     None
 }
 
-// The values of variables and literals. An error means that memory is out.
+/// The values of variables and literals; None where one isn't there. An error means that memory is out.
 #[tactic(auto, using(crate::proofs::Commands::copying))]
-fn all_plain(
+pub(crate) fn all_plain(
     alloc: Global,
     code: &[Instr],
     variables: &Variables,
@@ -106,6 +85,7 @@ fn all_plain(
     Ok(Some(values))
 }
 
+#[inline]
 fn plain(variables: &Variables, instr: &Instr) -> Result<Option<Value>, AllocError>
     ensures { IfOk result (λ value. value ≡ p.plain variables.now (view_instr instr.now)) }
 {
@@ -119,6 +99,7 @@ fn plain(variables: &Variables, instr: &Instr) -> Result<Option<Value>, AllocErr
     }
 }
 
+#[inline]
 fn load(variables: &Variables, n: u32) -> Result<Option<Value>, AllocError>
     ensures { IfOk result (λ value. value ≡ slice_get variables.now n) }
 {
@@ -131,6 +112,7 @@ fn load(variables: &Variables, n: u32) -> Result<Option<Value>, AllocError>
     }
 }
 
+#[inline]
 fn is_plain(instr: &Instr) -> bool
     ensures { result ≡ p.is_plain (view_instr instr.now) }
 {
@@ -141,6 +123,7 @@ fn is_plain(instr: &Instr) -> bool
 }
 
 // Whether it is a process's instruction.
+#[inline]
 fn is_command(instr: &Instr) -> bool
     ensures { result ≡ m.is_command (view_instr instr.now) }
 {

@@ -7,7 +7,7 @@ ghost use Rattle.campl_eval.specs.View.{code_of, seen, seens};
 ghost use Rattle.campl_kept.specs.View.{view_kept, is_lost, came_to, IsValues};
 ghost use Rattle.campl_kept.specs.Keeps.{Keeps};
 
-use crate::command::plain_values;
+use crate::command::{all_plain, code_from, reach};
 use campl_eval::{Eval, Frame, Machine, Turn};
 use campl_operands::{Variables, copies};
 use campl_program::Program;
@@ -59,18 +59,33 @@ impl Kept {
     ) -> Result<Kept, AllocError>
         ensures { IfOk result (λ kept. Keeps (code_of program.now) (frame_at block at variables) [] 0 (view_kept kept)) }
     {
-        match plain_values(alloc, program, block, at, &variables) {
-            Err(error) => Err(error),
-            Ok(None) => evaluate(alloc, program, block, at, variables),
-            Ok(Some((n, values))) => match at.checked_add(n) {
-                None => evaluate(alloc, program, block, at, variables),
-                Some(at) => Ok(Kept::Values {
+        let code = code_from(program, block, at);
+        match reach(code) {
+            None => {}
+            Some(0) => {
+                return Ok(Kept::Values {
                     at,
                     variables,
-                    values,
-                }),
+                    values: Vec::new(alloc),
+                });
+            }
+            Some(n) => match all_plain(alloc, &code[..n], &variables) {
+                Err(error) => return Err(error),
+                Ok(None) => {}
+                Ok(Some(values)) => match at.checked_add(n) {
+                    None => {}
+                    Some(at) => {
+                        return Ok(Kept::Values {
+                            at,
+                            variables,
+                            values,
+                        });
+                    }
+                },
             },
         }
+        // Called at one place alone, it is compiled where it is called, which saves moves.
+        evaluate(alloc, program, block, at, variables)
     }
 
     /// Gives so many more calls, which change nothing but where it stands before one. The error means that memory is out, and
@@ -162,6 +177,7 @@ fn before_call(alloc: Global, eval: Eval) -> Result<Kept, AllocError>
 }
 
 // The same by the machine, as far as the first call.
+#[inline]
 fn evaluate(
     alloc: Global,
     program: &Program,
