@@ -2,3 +2,4 @@ pub mod Size
 pub mod Acts
 pub mod Kept
 pub mod Making
+pub mod Leaping

@@ -1,3 +1,4 @@
 pub mod View
 pub mod Flow
 pub mod Turn
+pub mod Leaps

@@ -16,6 +16,7 @@
 mod calls;
 mod eval;
 mod laws;
+mod leaps;
 mod machine;
 mod matching;
 mod spare;
