@@ -30,3 +30,8 @@ row-is vs (s ∷ spots) n vars = row-next vs spots n vars (value_at vs s) (λ t.
 -- the values are set in turn
 pub in-turn : (vs : List Tree) (spots : List Spot) (n : ℕ) (vars : List Tree) → option_map (λ ts. set_from n ts vars) (values_at vs spots) ≡ row_set vs spots n vars
 in-turn vs spots n vars = sym (row-is vs spots n vars)
+
+-- where one isn't there, nothing is set
+pub none-set : (o : Option Tree) (next : List Tree → Option (List Tree)) (n : ℕ) (vars : List Tree) → option_map (slice_set vars n) o ≡ None → set_next o next n vars ≡ None
+none-set None next n vars e = refl
+none-set (Some t) next n vars e = absurd cc

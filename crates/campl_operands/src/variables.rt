@@ -1,15 +1,15 @@
 //! A frame's variables.
-ghost use Rattle.std.specs.Prelude.{◌≡◌, ◌++◌, ◌-◌, [], ◌∷◌, length, reverse, replicate, slice_get, slice_set, option_map, IfOk, OnOk};
+ghost use Rattle.std.specs.Prelude.{◌≡◌, ◌++◌, ◌-◌, [], ◌∷◌, length, reverse, replicate, slice_get, slice_set, option_map, Some, IfOk, IfSome, OnOk};
 ghost use Rattle.std.specs.Option.{option_copied};
-ghost use Rattle.campl_value.specs.Tree.{Nil};
-ghost use Rattle.campl_code.specs.Decisions.{values_at};
+ghost use Rattle.campl_value.specs.Tree.{Nil, Int};
+ghost use Rattle.campl_code.specs.Decisions.{value_at, values_at};
 ghost use Rattle.campl_code.specs.Frames.{set_from};
 ghost use Rattle.campl_operands.specs.Effects.{Sets};
 
 use crate::RowEffect;
 use crate::copying::copies;
 use campl_instructions::{Spot, value_at};
-use campl_value::Value;
+use campl_value::{Look, Value};
 use std::alloc::{AllocError, Global};
 use std::marker::Model;
 use std::mem;
@@ -73,15 +73,34 @@ impl Variables {
         ensures { Sets (option_map (λ ts. set_from first ts self.old) (values_at values.now spots.now)) result self.new }
     {
         for (i, spot) in spots.iter().enumerate() {
-            let Some(part) = value_at(values, spot.as_slice()) else {
-                return RowEffect::Missing;
-            };
-            match part.copy() {
-                Err(_) => return RowEffect::OutOfMemory,
-                Ok(value) => self.put(first as usize + i, value),
+            match self.put_part(values, first as usize + i, spot.as_slice()) {
+                RowEffect::Done => {}
+                RowEffect::Missing => return RowEffect::Missing,
+                RowEffect::OutOfMemory => return RowEffect::OutOfMemory,
             }
         }
         RowEffect::Done
+    }
+
+    // Sets a variable to the value at this place.
+    #[inline]
+    fn put_part(&mut self, values: &[Value], n: usize, spot: &[u32]) -> RowEffect
+        ensures { Sets (option_map (slice_set self.old n) (value_at values.now spot.now)) result self.new }
+    {
+        if let Some(x) = int_at(values, spot) {
+            self.put(n, Value::int(x));
+            return RowEffect::Done;
+        }
+        let Some(part) = value_at(values, spot) else {
+            return RowEffect::Missing;
+        };
+        match part.copy() {
+            Err(_) => RowEffect::OutOfMemory,
+            Ok(value) => {
+                self.put(n, value);
+                RowEffect::Done
+            }
+        }
     }
 
     /// Lets all of them go, and keeps their room.
@@ -122,5 +141,22 @@ impl Variables {
         ensures values { values.new.items ≡ self.old }
     {
         mem::swap(&mut self.items, values);
+    }
+}
+
+// The integer that is one of these values by itself, where the place is that of one.
+#[inline]
+fn int_at(values: &[Value], spot: &[u32]) -> Option<i64>
+    ensures { IfSome result (λ x. value_at values.now spot.now ≡ Some (Int x)) }
+{
+    match spot {
+        [n] => match values.get(*n as usize) {
+            None => None,
+            Some(value) => match value.look() {
+                Look::Int(x) => Some(x),
+                _ => None,
+            },
+        },
+        _ => None,
     }
 }
