@@ -16,7 +16,7 @@ use Rattle.campl_eval.proofs.Kept.{Same, goes}
 use Rattle.campl_eval.proofs.Size.{rest, rests, total, goes-falls, at_goes, at_enters}
 
 -- what is behind some steps
-onto : (code : Code) (n : ℕ) (f g h : Frame) → Ahead code n f g → Comes code g h → Comes code f h
+pub onto : (code : Code) (n : ℕ) (f g h : Frame) → Ahead code n f g → Comes code g h → Comes code f h
 onto code zero f g h a c = subst (λ (x : Frame). Comes code x h) (sym a) c
 onto code (suc n) f g h (x, s, a) c = let d = onto code n x g h a c in (suc d.0, (x, s, d.1))
 
@@ -31,7 +31,7 @@ on b f g h p q = record {
 }
 
 -- one step, by the instruction that is there
-one : (b : Block) (f g : Frame) (x : Instr) → slice_get b.code f.at ≡ Some x → g.block ≡ f.block → f.at ≤ g.at → ((code : Code) (fs : List Frame) → act code x f fs ≡ Goes g fs) → Within b f g
+pub one : (b : Block) (f g : Frame) (x : Instr) → slice_get b.code f.at ≡ Some x → g.block ≡ f.block → f.at ≤ g.at → ((code : Code) (fs : List Frame) → act code x f fs ≡ Goes g fs) → Within b f g
 one b f g x there same onward acts = record {
   same = same;
   onward = onward;

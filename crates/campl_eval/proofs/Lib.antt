@@ -3,3 +3,4 @@ pub mod Acts
 pub mod Kept
 pub mod Making
 pub mod Leaping
+pub mod Passed

@@ -1,10 +1,11 @@
 -- Several steps of a frame at once.
-use Rattle.std.specs.Prelude.{◌≡◌, ℕ, zero, suc, ◌≤◌, List, Option, Some, None, slice_get}
+use Rattle.std.specs.Prelude.{◌≡◌, ℕ, zero, suc, ◌≤◌, List, ◌++◌, reverse, take, Option, Some, None, slice_get}
 use Rattle.campl_value.specs.Tree.{Tree, Int}
 use Rattle.campl_code.specs.Instructions.{Instr, Block, Code, blocks}
 use Rattle.campl_code.specs.Instructions as i
 use Rattle.campl_code.specs.Frames.{Frame}
-use Rattle.campl_code.specs.Machine.{Goes, step}
+use Rattle.campl_code.specs.Decisions.{Decision}
+use Rattle.campl_code.specs.Machine.{Goes, matches, step}
 
 -- so many steps lead from one frame to another, whatever frames wait
 abbrev pub Ahead : Code → ℕ → Frame → Frame → Type 0
@@ -30,3 +31,8 @@ put_by x vars = None
 abbrev pub put_at : Option Instr → List Tree → Option Tree
 put_at None vars = None
 put_at (Some x) vars = put_by x vars
+
+-- where the first n variables are on the operands, a match by this decision goes to this place and changes no variable
+abbrev pub Passes : Decision → List Tree → (n first : ℕ) → (places : List ℕ) → (to : ℕ) → Type 0
+Passes d vars n first places to = (block at : ℕ) (stack : List Tree) (fs : List Frame)
+    → matches (Some d) first places (record { block = block; at = at; vars = vars; stack = reverse (take n vars) ++ stack }) fs ≡ Goes (record { block = block; at = to; vars = vars; stack = stack }) fs

@@ -18,13 +18,15 @@ use sqlite_items::at as item_at;
 use std::alloc::AllocError;
 
 impl Frame {
-    /// Goes on in the frame's block as far as integers lead. An error means that memory is out.
+    /// Passes a match at the front of the frame's block that changes no variable, and goes on in the block as far as integers
+    /// lead. An error means that memory is out.
     pub(crate) fn leap(&mut self, program: &Program) -> Result<(), AllocError>
         ensures { OnOk result (Comes (code_of program.now) (seen self.old) (seen self.new)) }
     {
         let Some(block) = program.block(self.block) else {
             return Ok(());
         };
+        self.pass(program, block);
         self.go_in(block)
     }
 
@@ -157,7 +159,7 @@ impl Frame {
 
 // The instruction at this place of a block, where there is one.
 #[inline]
-fn instr_at(block: &Block, place: usize) -> Option<&Instr>
+pub(crate) fn instr_at(block: &Block, place: usize) -> Option<&Instr>
     ensures value { option_map view_instr (option_copied result) ≡ slice_get (view_block block.now).code place }
     ensures room { IfSome result (λ _. place + 1 < 2 ^ 64) }
 {

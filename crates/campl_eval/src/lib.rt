@@ -19,6 +19,7 @@ mod laws;
 mod leaps;
 mod machine;
 mod matching;
+mod passing;
 mod spare;
 mod stack;
 

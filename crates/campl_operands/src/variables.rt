@@ -1,5 +1,5 @@
 //! A frame's variables.
-ghost use Rattle.std.specs.Prelude.{◌≡◌, ◌++◌, ◌-◌, [], ◌∷◌, length, reverse, replicate, slice_get, slice_set, option_map, Some, IfOk, IfSome, OnOk};
+ghost use Rattle.std.specs.Prelude.{◌≡◌, ◌≤◌, true, take, ◌++◌, ◌-◌, [], ◌∷◌, length, reverse, replicate, slice_get, slice_set, option_map, Some, IfOk, IfSome, OnOk};
 ghost use Rattle.std.specs.Option.{option_copied};
 ghost use Rattle.campl_value.specs.Tree.{Nil, Int};
 ghost use Rattle.campl_code.specs.Decisions.{value_at, values_at};
@@ -103,6 +103,59 @@ impl Variables {
         }
     }
 
+    /// How many there are.
+    #[inline]
+    pub fn len(&self) -> usize
+        ensures { result ≡ length self.now }
+    {
+        self.items.len()
+    }
+
+    /// The first n variables, where there are so many.
+    #[inline]
+    pub fn first(&self, n: usize) -> Option<&[Value]>
+        ensures { IfSome result (λ values. (n ≤ length self.now) × (values.now ≡ take n self.now)) }
+    {
+        if n > self.items.len() {
+            return None;
+        }
+        let (values, _) = self.items.as_slice().split_at(n);
+        Some(values)
+    }
+
+    /// Whether a row of the first variables at these places sets each variable, from `first` on, to what it holds already.
+    #[inline]
+    pub fn stay(&self, width: usize, first: u32, spots: &[Spot]) -> bool
+        ensures { result ≡ true → option_map (λ ts. set_from first ts self.now) (values_at (take width self.now) spots.now) ≡ Some self.now }
+    {
+        for (i, spot) in spots.iter().enumerate() {
+            if !self.stays(width, first as usize + i, spot.as_slice()) {
+                return false;
+            }
+        }
+        true
+    }
+
+    // Whether the place is that of the variable with this number, which is one of the first.
+    #[inline]
+    fn stays(&self, width: usize, n: usize, spot: &[u32]) -> bool
+        ensures { result ≡ true → option_map (slice_set self.now n) (value_at (take width self.now) spot.now) ≡ Some self.now }
+    {
+        let Some(k) = only(spot) else {
+            return false;
+        };
+        if k as usize != n {
+            return false;
+        }
+        if n >= width {
+            return false;
+        }
+        if n >= self.len() {
+            return false;
+        }
+        true
+    }
+
     /// Lets all of them go, and keeps their room.
     pub fn clear(&mut self)
         ensures { self.new ≡ [] }
@@ -157,6 +210,17 @@ fn int_at(values: &[Value], spot: &[u32]) -> Option<i64>
                 _ => None,
             },
         },
+        _ => None,
+    }
+}
+
+// The number of a value, where the place is that of one by itself.
+#[inline]
+fn only(spot: &[u32]) -> Option<u32>
+    ensures { IfSome result (λ n. spot.now ≡ n ∷ []) }
+{
+    match spot {
+        [n] => Some(*n),
         _ => None,
     }
 }
