@@ -1,5 +1,5 @@
 -- Steps within a block, put together.
-use Rattle.std.proofs.Common.{◌≡◌, ◌∙◌, ap, sym, subst, refl, arith, ℕ, ℤ, zero, suc, ◌+◌, ◌-◌, ◌*◌, ◌<◌, ◌≤◌, List, [], ◌∷◌, Option, Some, None, true, false, Bool, Result}
+use Rattle.std.proofs.Common.{◌≡◌, ◌∙◌, ap, sym, subst, refl, arith, ℕ, ℤ, zero, suc, ◌+◌, ◌-◌, ◌*◌, ◌<◌, ◌≤◌, List, ◌∷◌, Option, Some, None, true, false, Result}
 use Rattle.std.specs.Prelude.{slice_get, OnOk}
 use Rattle.std.proofs.lemmas.Result.{on_ok_weaker}
 use Rattle.std.specs.Ordering.{int_cmp}
@@ -10,7 +10,7 @@ use Rattle.campl_code.specs.Instructions as i
 use Rattle.campl_code.specs.Frames.{Frame}
 use Rattle.campl_code.specs.Results.{Value, perhaps}
 use Rattle.campl_code.specs.Forward.{IsForward}
-use Rattle.campl_code.specs.Machine.{Next, Goes, Enters, code_at, pushes, act, does, step}
+use Rattle.campl_code.specs.Machine.{Goes, Enters, code_at, pushes, act, does, step}
 use Rattle.campl_eval.specs.Leaps.{Ahead, Comes, Within, put_by, put_at}
 use Rattle.campl_eval.proofs.Kept.{Same, goes}
 use Rattle.campl_eval.proofs.Size.{rest, rests, total, goes-falls, at_goes, at_enters}

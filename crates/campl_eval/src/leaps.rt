@@ -51,12 +51,43 @@ impl Frame {
         ensures onward { IfOk result (λ on. on ≡ true → (self.old.at < self.new.at) × (self.old.at < 2 ^ 64)) }
     {
         match int_at(block, self.at, &self.variables) {
-            None => Ok(self.jump(block)),
+            None => self.hop_other(block),
             Some(x) => {
                 self.with_one(block, self.at + 1, x)?;
                 Ok(true)
             }
         }
+    }
+
+    // Does a load or a jump.
+    #[inline]
+    fn hop_other(&mut self, block: &Block) -> Result<bool, AllocError>
+        ensures within { OnOk result (Within (view_block block.now) (seen self.old) (seen self.new)) }
+        ensures onward { IfOk result (λ on. on ≡ true → (self.old.at < self.new.at) × (self.old.at < 2 ^ 64)) }
+    {
+        match instr_at(block, self.at) {
+            Some(Instr::Load(_)) => self.load(block),
+            Some(Instr::Jump(_)) => Ok(self.jump(block)),
+            _ => Ok(false),
+        }
+    }
+
+    // Loads a variable, where that is the instruction.
+    #[inline]
+    #[tactic(auto, using(crate::proofs::Leaping::leaps))]
+    fn load(&mut self, block: &Block) -> Result<bool, AllocError>
+        ensures within { OnOk result (Within (view_block block.now) (seen self.old) (seen self.new)) }
+        ensures onward { IfOk result (λ on. on ≡ true → (self.old.at < self.new.at) × (self.old.at < 2 ^ 64)) }
+    {
+        let Some(Instr::Load(v)) = instr_at(block, self.at) else {
+            return Ok(false);
+        };
+        let Some(value) = self.variables.get(*v) else {
+            return Ok(false);
+        };
+        let value = value.copy()?;
+        self.put(self.at + 1, value)?;
+        Ok(true)
     }
 
     // Jumps, where that is the instruction, and onward.

@@ -20,6 +20,9 @@ impl Frame {
         ensures same { self.new.block ≡ self.old.block }
         ensures comes { Comes (code_of program.now) (seen self.old) (seen self.new) }
     {
+        if self.at != 0 {
+            return;
+        }
         let n = self.loads(block);
         let Some(place) = self.at.checked_add(n) else {
             return;

@@ -182,6 +182,17 @@ impl Variables {
         Ok(())
     }
 
+    // The same of a value that stood elsewhere.
+    #[inline]
+    pub(crate) fn push_moved(&mut self, value: Value) -> Result<(), AllocError>
+        ensures { OnOk result (self.new ≡ self.old ++ value ∷ []) }
+    {
+        match value.look() {
+            Look::Int(n) => self.push(Value::int(n)),
+            _ => self.push(value),
+        }
+    }
+
     pub(crate) fn reverse(&mut self)
         ensures { self.new ≡ reverse self.old }
     {

@@ -1,4 +1,4 @@
-use Rattle.std.proofs.Common.{◌∙◌, sym}
+use Rattle.std.proofs.Common.{sym}
 use Rattle.std.proofs.lemmas.Result.{on_ok_weaker}
 use Rattle.campl_instructions.specs.View.{view_block}
 use Rattle.campl_eval.specs.View.{code_of, seen}

@@ -1,8 +1,7 @@
 use Rattle.std.proofs.Common.{◌≡◌, ◌+◌, arith, sym, ap, Some, ◌∙◌}
 use Rattle.std.specs.Prelude.{slice_get}
-use Rattle.campl_code.specs.Instructions as i
 use Rattle.campl_instructions.specs.View.{view_instr, view_block, view_decision}
-use Rattle.campl_eval.specs.View.{code_of, seen}
+use Rattle.campl_eval.specs.View.{code_of}
 use Rattle.campl_eval.proofs.Passed.{passed}
 use Rattle.campl_eval.proofs.machine.Frame.pass.Goals as goal
 
