@@ -4,7 +4,7 @@ ghost use Rattle.std.specs.Option.{option_copied};
 ghost use Rattle.campl_value.specs.Tree.{Int, Truth};
 ghost use Rattle.std.specs.Ordering.{int_cmp};
 ghost use Rattle.campl_evaluation.specs.Evaluation.{holds as is_so};
-ghost use Rattle.campl_instructions.specs.View.{view_instr, view_block, view_operation};
+ghost use Rattle.campl_instructions.specs.View.{view_instr, view_block};
 ghost use Rattle.campl_eval.specs.Leaps.{Comes, Within, put_by, put_at};
 ghost use Rattle.campl_eval.specs.View.{code_of, seen};
 

@@ -8,7 +8,7 @@ ghost use Rattle.campl_eval.specs.View.{code_of, seen};
 
 use crate::Frame;
 use crate::leaps::instr_at;
-use campl_instructions::{Block, Decision, Instr};
+use campl_instructions::{Block, Decision, Head, Instr, Node};
 use campl_operands::Variables;
 use campl_program::Program;
 use sqlite_items::at as item_at;
@@ -77,6 +77,9 @@ fn passes(
 ) -> Option<usize>
     ensures { IfSome result (Passes (view_decision decision.now) variables.now n first places.now) }
 {
+    if takes_apart(decision) {
+        return None;
+    }
     if decision.width as usize != n {
         return None;
     }
@@ -92,5 +95,14 @@ fn passes(
     match item_at(places, row as usize) {
         None => None,
         Some(to) => Some(*to as usize),
+    }
+}
+
+// Whether the decision takes lists or pairs apart, so that most of its rows set variables.
+#[inline]
+fn takes_apart(decision: &Decision) -> bool {
+    match decision.nodes.as_slice().first() {
+        Some(Node::Test(_, head, _, _)) => matches!(head, Head::Nil | Head::Cell | Head::Pair),
+        _ => false,
     }
 }

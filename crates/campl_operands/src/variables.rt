@@ -9,7 +9,7 @@ ghost use Rattle.campl_operands.specs.Effects.{Sets};
 use crate::RowEffect;
 use crate::copying::copies;
 use campl_instructions::{Spot, value_at};
-use campl_value::{Look, Value};
+use campl_value::{Look, Part, Value};
 use std::alloc::{AllocError, Global};
 use std::marker::Model;
 use std::mem;
@@ -91,9 +91,18 @@ impl Variables {
             self.put(n, Value::int(x));
             return RowEffect::Done;
         }
-        let Some(part) = value_at(values, spot) else {
-            return RowEffect::Missing;
-        };
+        // The part is lent where it stands, since a move of it costs more than all else here.
+        match &value_at(values, spot) {
+            None => RowEffect::Missing,
+            Some(part) => self.put_copy(n, part),
+        }
+    }
+
+    // Sets a variable to a copy of a part.
+    #[inline]
+    fn put_copy(&mut self, n: usize, part: &Part<'_>) -> RowEffect
+        ensures { Sets (Some (slice_set self.old n part.now)) result self.new }
+    {
         match part.copy() {
             Err(_) => RowEffect::OutOfMemory,
             Ok(value) => {
