@@ -1,4 +1,4 @@
-use Rattle.std.proofs.Common.{◌≡◌, ◌∙◌, ◌<◌, ap, arith, length, take, Some}
+use Rattle.std.proofs.Common.{◌≡◌, ◌∙◌, ◌<◌, ap, arith, length, take}
 use Rattle.std.specs.Prelude.{option_map, slice_set}
 use Rattle.campl_code.specs.Decisions.{Spot, value_at}
 use Rattle.campl_operands.proofs.RowsSet.{set_same}
