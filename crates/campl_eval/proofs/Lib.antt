@@ -3,3 +3,5 @@ pub mod Acts
 pub mod Kept
 pub mod Making
 pub mod Chunked
+pub mod Leaping
+pub mod Passed

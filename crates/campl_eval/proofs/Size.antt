@@ -191,3 +191,6 @@ module _ (code : Code) (forward : IsForward code) (f : Frame) (fs : List Frame) 
       let h : rest code f' + rests code fs' ≤ rest code f + rests code fs + total (blocks code) = subst (Falls code (rest code f + rests code fs)) e (step_falls code forward f fs) in
       let s : suc k * (total (blocks code) + 1) ≡ k * (total (blocks code) + 1) + (total (blocks code) + 1) = grind arith in
       rw sub-one (omega (arith, h, s))
+
+pub goes-falls : (code : Code) → IsForward code → (f : Frame) (fs : List Frame) (f' : Frame) (fs' : List Frame) → step code f fs ≡ Goes f' fs' → rest code f' + rests code fs' < rest code f + rests code fs
+goes-falls code forward f fs f' fs' e = subst (Falls code (rest code f + rests code fs)) e (step_falls code forward f fs)

@@ -2,3 +2,4 @@ pub mod View
 pub mod Flow
 pub mod Turn
 pub mod Chunks
+pub mod Leaps

@@ -85,7 +85,7 @@ impl Machine {
         let mut frame = self.spare.take(alloc);
         frame.block = g as usize;
         frame.at = 0;
-        self.frame.operands.move_top(n, &mut frame.variables)?;
+        self.frame.operands.give_top(n, &mut frame.variables)?;
         frame.variables.pad(size)?;
         let caller = mem::replace(&mut self.frame, frame);
         self.callers.push(caller)
@@ -126,7 +126,7 @@ impl Machine {
         if self.spare.keep(gone).is_err() {
             return Flow::OutOfMemory;
         }
-        match self.frame.operands.push(value) {
+        match self.frame.operands.push_moved(value) {
             Err(_) => Flow::OutOfMemory,
             Ok(()) => Flow::Goes,
         }

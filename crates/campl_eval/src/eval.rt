@@ -104,7 +104,8 @@ impl Eval {
         // Its jumps lead onward, so that the loop ends.
         let _raw = program.raw();
         let mut left = calls;
-        loop {
+        'left: loop {
+            self.machine.frame.leap(program)?;
             if left == 0 && is_at_call(&self.machine, program) {
                 return Ok(Turn::More);
             }

@@ -1,17 +1,14 @@
 -- What is made of a body is the same for each number that is at least its size, and for channels whose numbers are the same.
-use Rattle.std.proofs.Common.{◌≡◌, ◌∙◌, refl, sym, ap, ℕ, zero, suc, ◌+◌, ◌≤◌, Bool, true, false, not, List, [], ◌∷◌, ◌++◌, Option, Some, None, if◌then◌else◌, length, inl, inr, ◌⊎◌, arith}
-use Rattle.campl_tree.specs.declared.place.Ident.{Ident}
+use Rattle.std.proofs.Common.{◌≡◌, ◌∙◌, refl, ap, ℕ, zero, suc, ◌+◌, ◌≤◌, false, not, List, [], ◌∷◌, ◌++◌, Some, None, length, arith}
 use Rattle.campl_tree.specs.declared.service.Side.{Side}
 use Rattle.campl_tree.specs.Plain.Process as b
 use Rattle.campl_tree.specs.Plain.Process.{Body, HcaseRows, Branches, CaseRows, Parts, Link, Header}
-use Rattle.campl_types.specs.Names.{Name, same_name, found}
 use Rattle.campl_types.specs.World.{World}
 use Rattle.campl_types.specs.Matching.{number_of}
 use Rattle.campl_types.specs.Patterns.{bound_in}
 use Rattle.campl_types.specs.Free.{is_free}
 use Rattle.campl_types.specs.Linear.{body_rows}
-use Rattle.campl_types.proofs.Names.{split-names, same-itself}
-use Rattle.campl_peel.specs.Numbered.{part_at, picked, last_first, add_part, joined_parts}
+use Rattle.campl_peel.specs.Numbered.{part_at, picked, last_first, add_part}
 use Rattle.campl_peel.specs.Plugging.{stands_in, side_in, links_to, without_link}
 use Rattle.campl_peel.specs.Terms.{those}
 use Rattle.campl_code.specs.Instructions as i
@@ -24,7 +21,7 @@ use Rattle.campl_code_bodies.specs.Bodies.{Channels, without, binds}
 use Rattle.campl_code_bodies.specs.BodyCode.{Made, Maker, prefixed, alone, joined, number, all_numbers, process_number, hcase_made, hcase_starts, start_of, listed, count_hcase, race_made, race_starts, case_made, case_starts, link_name, peels_made, link_code, command_made, body_made}
 use Rattle.campl_code_bodies.specs.BodySizes.{body_size, hcase_size, race_size, cases_size, parts_size}
 use Rattle.campl_gen_channels.specs.Numbers.{NumbersAlike}
-use Rattle.campl_gen_channels.proofs.Alike.{alike-itself, alike-more, alike-without, alike-those, same-number, same-numbers}
+use Rattle.campl_gen_channels.proofs.Alike.{alike-more, alike-without, alike-those, same-number, same-numbers}
 use Rattle.campl_gen_bodies.specs.Making.{whole}
 
 -- Makers

@@ -1,11 +1,11 @@
 -- The bodies of a plug's parts, behind all peels.
-use Rattle.std.proofs.Common.{◌≡◌, ◌∙◌, refl, sym, ap, ℕ, zero, suc, ◌+◌, ◌-◌, ◌<◌, ◌≤◌, max, List, [], ◌∷◌, ◌++◌, map, length, drop, take, get_or, Option, Some, None, slice_get, arith}
+use Rattle.std.proofs.Common.{◌≡◌, ◌∙◌, refl, sym, ap, ℕ, zero, suc, ◌+◌, ◌-◌, ◌<◌, ◌≤◌, max, List, [], ◌∷◌, ◌++◌, map, length, drop, take, get_or, Some, None, slice_get, arith}
 use Rattle.std.specs.Borrow.{Bor}
 use Rattle.std.proofs.lemmas.List.{drop_all, drop_more}
 use Rattle.campl_tree.specs.declared.process.Part.{Part}
 use Rattle.campl_tree.specs.declared.process.Branch.{Branch, out-Branch}
 use Rattle.campl_tree.specs.declared.place.Ident.{Ident}
-use Rattle.campl_tree.specs.Plain.Process.{Body, Link, Header, Parts}
+use Rattle.campl_tree.specs.Plain.Process.{Body, Link}
 use Rattle.campl_tree.specs.View.{view_part, view_body, view_branch, parts as part_list}
 use Rattle.campl_tree.proofs.Views.{view_branch-out}
 use Rattle.campl_types.specs.World.{World}
@@ -19,12 +19,11 @@ use Rattle.campl_gen_channels.specs.Orders.{view_part_at}
 use Rattle.campl_gen_bodies.specs.declared.peels.Child.{Child}
 use Rattle.campl_gen_bodies.specs.Making.{Making, pushed, patched, built}
 use Rattle.campl_gen_bodies.specs.Commands.{first_held, second_held, fork_built}
-use Rattle.campl_gen_bodies.specs.Peels as peels
 use Rattle.campl_gen_bodies.specs.Peels.{child_built, children_built, heaviest, heaviest_child}
 use Rattle.campl_gen_bodies.specs.View.{view_child, one_part}
 use Rattle.campl_gen_bodies.proofs.Alike.{picked-fit, all-fit}
 use Rattle.campl_gen_bodies.proofs.Commands.{built-same}
-use Rattle.campl_gen_bodies.proofs.Peeled.{part-light, fit-heaviest}
+use Rattle.campl_gen_bodies.proofs.Peeled.{fit-heaviest}
 use Rattle.campl_gen_bodies.proofs.Sizes.{part-sizes}
 
 drop-at : {A : Type 0} (xs : List A) (n : ℕ) (x : A) → n < length xs → x ≡ get_or xs n x → drop n xs ≡ x ∷ drop (n + 1) xs

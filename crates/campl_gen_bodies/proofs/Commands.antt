@@ -1,5 +1,5 @@
 -- What is made of each command.
-use Rattle.std.proofs.Common.{◌≡◌, ◌∙◌, refl, sym, ap, ℕ, zero, suc, ◌+◌, ◌≤◌, Bool, true, false, not, max, List, [], ◌∷◌, ◌++◌, Option, Some, None, if◌then◌else◌, length, length-append, append_assoc, arith}
+use Rattle.std.proofs.Common.{◌≡◌, ◌∙◌, refl, sym, ap, ℕ, zero, suc, ◌+◌, Bool, false, max, List, [], ◌∷◌, ◌++◌, Option, Some, None, if◌then◌else◌, length, length-append, append_assoc, arith}
 use Rattle.std.specs.Prelude.{slice_set}
 use Rattle.campl_tree.specs.declared.place.Place.{Place}
 use Rattle.campl_tree.specs.declared.place.Ident.{Ident}
@@ -16,8 +16,7 @@ use Rattle.campl_types.specs.Matching.{number_of, is_number}
 use Rattle.campl_types.specs.Patterns.{bound_in}
 use Rattle.campl_types.specs.Linear.{body_rows}
 use Rattle.campl_peel.specs.Numbered.{last_first}
-use Rattle.campl_peel.specs.Plugging.{stands_in, side_in, without_link}
-use Rattle.campl_peel.specs.Terms.{those}
+use Rattle.campl_peel.specs.Plugging.{side_in, without_link}
 use Rattle.campl_code.specs.CaseDecisions.{cases_in, cases_in_all, decisions_of, decisions_of_all}
 use Rattle.campl_code.specs.Compiled.{decision_for}
 use Rattle.campl_code.specs.Decisions.{Decision}
@@ -34,8 +33,8 @@ use Rattle.campl_gen_exprs.specs.Emission.{emitted, emitted_all, binding}
 use Rattle.campl_gen_functions.specs.Deciding.{decided, decided_all}
 use Rattle.campl_gen_channels.specs.Numbers.{NumbersAlike}
 use Rattle.campl_gen_channels.proofs.Alike.{alike-itself}
-use Rattle.campl_gen_bodies.specs.Making.{Making, pushed, patched, valued, all_valued, received, entered, kept, whole, added, bare, built}
-use Rattle.campl_gen_bodies.specs.Commands.{halted, called, rows_built, row_starts, row_numbers, start_at, count_numbers, offer_places, hcase_built, race_built, case_row_built, cases_built, case_starts as starts_of_cases, decision_put, case_closed, case_built, first_held, second_held, fork_built}
+use Rattle.campl_gen_bodies.specs.Making.{Making, pushed, patched, valued, all_valued, received, whole, added, bare, built}
+use Rattle.campl_gen_bodies.specs.Commands.{halted, called, rows_built, row_starts, row_numbers, start_at, count_numbers, offer_places, hcase_built, race_built, cases_built, case_starts as starts_of_cases, decision_put, case_closed, case_built, first_held, second_held, fork_built}
 use Rattle.campl_gen_bodies.specs.Peels.{link_of, child_built, child_held, rest_held, peeled_child, peels_built}
 use Rattle.campl_gen_bodies.proofs.Alike.{hcase-alike, hcase-starts-alike, race-alike, race-starts-alike, case-alike, case-starts-alike, peels-alike, picked-fit, all-fit, whole-alike, whole-same}
 

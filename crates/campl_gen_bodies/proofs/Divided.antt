@@ -1,5 +1,5 @@
 -- Channels divided at a fork.
-use Rattle.std.proofs.Common.{◌≡◌, ◌∙◌, refl, sym, ap, ℕ, suc, Bool, true, false, not, List, [], ◌∷◌}
+use Rattle.std.proofs.Common.{◌≡◌, ◌∙◌, refl, ap, ℕ, suc, Bool, true, false, not, List, ◌∷◌}
 use Rattle.campl_tree.specs.declared.process.Branch.{Branch, out-Branch}
 use Rattle.campl_tree.specs.declared.place.Ident.{Ident}
 use Rattle.campl_tree.specs.View.{view_branch, view_body}

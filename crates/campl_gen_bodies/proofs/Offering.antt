@@ -1,16 +1,14 @@
 -- Places by the numbers of constructors.
-use Rattle.std.proofs.Common.{◌≡◌, ◌∙◌, refl, sym, ap, ℕ, zero, suc, ◌+◌, ◌<◌, ◌≤◌, Bool, true, false, max, List, [], ◌∷◌, ◌++◌, map, Option, Some, None, if◌then◌else◌, eqb, eqb-true, eq-eqb, ne_eqb, length, drop, get_or, slice_get, slice_set, inl, inr, ◌⊎◌, arith}
+use Rattle.std.proofs.Common.{◌≡◌, ◌∙◌, refl, sym, ap, ℕ, zero, suc, ◌+◌, ◌<◌, ◌≤◌, max, List, [], ◌∷◌, ◌++◌, map, Option, Some, None, if◌then◌else◌, eqb, eq-eqb, ne_eqb, length, drop, get_or, slice_get, slice_set, inl, inr, ◌⊎◌, arith}
 use Rattle.std.proofs.lemmas.List.{drop_all, drop_more}
-use Rattle.campl_tree.specs.declared.place.Ident.{Ident}
 use Rattle.campl_tree.specs.declared.process.HcaseRow.{HcaseRow}
-use Rattle.campl_tree.specs.Plain.Process.{Body}
 use Rattle.campl_tree.specs.View.{view_hcase_row}
 use Rattle.campl_tree.proofs.Views.{view_hcase_row-out}
 use Rattle.campl_types.specs.World.{World}
 use Rattle.campl_types.specs.Matching.{number_of, is_number}
 use Rattle.campl_code.specs.Generated.{or_zero}
 use Rattle.campl_code_bodies.specs.BodyCode.{listed}
-use Rattle.campl_gen_bodies.specs.Commands.{row_numbers, start_at, count_numbers, offer_places, placed, placed_row, no_places}
+use Rattle.campl_gen_bodies.specs.Commands.{row_numbers, start_at, count_numbers, placed, placed_row, no_places}
 
 drop-at : {A : Type 0} (xs : List A) (n : ℕ) (x : A) → n < length xs → x ≡ get_or xs n x → drop n xs ≡ x ∷ drop (n + 1) xs
 drop-at xs n x l is = drop_more xs n x l ∙ ap (λ y. y ∷ drop (n + 1) xs) (sym is)

@@ -1,11 +1,9 @@
 -- A plug's parts in turn.
-use Rattle.std.proofs.Common.{◌≡◌, ◌∙◌, refl, sym, ap, ℕ, zero, suc, ◌+◌, ◌-◌, ◌<◌, ◌≤◌, Bool, true, false, not, ◌&&◌, ◌||◌, max, List, [], ◌∷◌, ◌++◌, map, Option, Some, None, if◌then◌else◌, length, drop, take, get_or, arith}
+use Rattle.std.proofs.Common.{◌≡◌, ◌∙◌, refl, sym, ap, ℕ, zero, suc, ◌+◌, ◌-◌, ◌<◌, ◌≤◌, Bool, true, false, not, ◌&&◌, ◌||◌, max, List, [], ◌∷◌, ◌++◌, map, if◌then◌else◌, length, drop, take, get_or, arith}
 use Rattle.std.specs.Borrow.{Bor}
 use Rattle.std.proofs.lemmas.List.{drop_all, drop_more}
 use Rattle.campl_tree.specs.declared.process.Link.{Link as Joint}
 use Rattle.campl_tree.specs.declared.process.Part.{Part}
-use Rattle.campl_tree.specs.declared.service.Side.{Side}
-use Rattle.campl_tree.specs.Plain.Process as b
 use Rattle.campl_tree.specs.Plain.Process.{Body, Link, Header, Parts, no_parts, part_then}
 use Rattle.campl_tree.specs.View.{view_link, view_part, parts as part_list}
 use Rattle.campl_types.specs.Names.{Name, same_name, is_among, found}
@@ -16,7 +14,7 @@ use Rattle.campl_peel.specs.Plugging.{stands_in, stands_among, side_in, links_to
 use Rattle.campl_peel.specs.Terms.{those}
 use Rattle.campl_code.specs.Instructions as i
 use Rattle.campl_code_bodies.specs.Bodies.{Channels}
-use Rattle.campl_code_bodies.specs.BodyCode.{link_name, peels_made}
+use Rattle.campl_code_bodies.specs.BodyCode.{link_name}
 use Rattle.campl_code_bodies.specs.BodySizes.{body_size, parts_size}
 use Rattle.campl_gen_channels.specs.Numbers.{NumbersAlike}
 use Rattle.campl_gen_channels.specs.Orders.{view_part_at}

@@ -1,12 +1,10 @@
 -- Rows in turn, and the bodies in them.
-use Rattle.std.proofs.Common.{◌≡◌, ◌∙◌, refl, sym, ap, ℕ, suc, ◌+◌, ◌-◌, ◌<◌, ◌≤◌, List, [], ◌∷◌, ◌++◌, map, length, drop, take, get_or, arith}
+use Rattle.std.proofs.Common.{◌≡◌, ◌∙◌, refl, sym, ap, ℕ, ◌+◌, ◌<◌, ◌≤◌, List, [], ◌∷◌, ◌++◌, map, length, drop, get_or}
 use Rattle.std.proofs.lemmas.List.{drop_all, drop_more}
-use Rattle.campl_tree.specs.declared.process.HcaseRow.{HcaseRow, out-HcaseRow}
-use Rattle.campl_tree.specs.declared.process.Branch.{Branch, out-Branch}
 use Rattle.campl_tree.specs.declared.process.CaseRow.{CaseRow, out-CaseRow}
 use Rattle.campl_tree.specs.Plain.Pattern.{Pattern, pattern_then, no_patterns}
 use Rattle.campl_tree.specs.Plain.Process.{Body}
-use Rattle.campl_tree.specs.View.{view_body, view_pattern, view_hcase_row, view_branch, view_case_row, case_rows}
+use Rattle.campl_tree.specs.View.{view_body, view_pattern, view_case_row, case_rows}
 use Rattle.campl_tree.proofs.Views.{view_hcase_row-out, view_branch-out, view_case_row-out, view_part-out}
 use Rattle.campl_types.specs.Forms.{Form, list_of, part_forms}
 use Rattle.campl_types.specs.Linear.{body_rows}
@@ -16,7 +14,7 @@ use Rattle.campl_code.specs.Numbers.{Numbers}
 use Rattle.campl_code_bodies.specs.Bodies.{Channels}
 use Rattle.campl_gen_exprs.specs.Emission.{binding}
 use Rattle.campl_gen_exprs.proofs.Bindings.{forgotten}
-use Rattle.campl_gen_bodies.specs.Making.{Making, entered, kept, left_at, built}
+use Rattle.campl_gen_bodies.specs.Making.{Making, entered, left_at, built}
 use Rattle.campl_gen_bodies.specs.Commands.{rows_built, row_starts, case_row_built, cases_built, case_starts}
 
 drop-at : {A : Type 0} (xs : List A) (n : ℕ) (x : A) → n < length xs → x ≡ get_or xs n x → drop n xs ≡ x ∷ drop (n + 1) xs

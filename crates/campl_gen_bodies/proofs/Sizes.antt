@@ -1,5 +1,5 @@
 -- Each call goes on with less.
-use Rattle.std.proofs.Common.{◌≡◌, ◌∙◌, refl, sym, ap, ℕ, zero, suc, ◌+◌, ◌-◌, ◌*◌, ◌<◌, ◌≤◌, List, [], ◌∷◌, map, length, get_or, arith}
+use Rattle.std.proofs.Common.{◌≡◌, ◌∙◌, sym, ap, ℕ, zero, suc, ◌+◌, ◌*◌, ◌<◌, ◌≤◌, List, [], ◌∷◌, map, length, get_or, arith}
 use Rattle.campl_tree.specs.declared.place.Place.{Place}
 use Rattle.campl_tree.specs.declared.place.Ident.{Ident}
 use Rattle.campl_tree.specs.declared.process.Body as body
@@ -12,7 +12,7 @@ use Rattle.campl_tree.specs.declared.process.CaseRow.{CaseRow}
 use Rattle.campl_tree.specs.declared.process.Part.{Part}
 use Rattle.campl_tree.specs.declared.expr.Expr.{Expr}
 use Rattle.campl_tree.specs.Plain.Process as b
-use Rattle.campl_tree.specs.View.{view_action, view_last, view_body, view_link, view_hcase_row, hcase_rows, view_branch, branches, view_case_row, case_rows, view_part, parts as part_list, actions_then}
+use Rattle.campl_tree.specs.View.{view_action, view_last, view_body, view_hcase_row, hcase_rows, view_branch, branches, view_case_row, case_rows, view_part, parts as part_list, actions_then}
 use Rattle.campl_tree.proofs.Views.{view_last-Hcase, view_last-Fork, view_last-Plug, view_last-Race, view_last-Case, view_body-out}
 use Rattle.campl_code_bodies.specs.BodySizes.{body_size, hcase_size, race_size, cases_size, parts_size}
 

@@ -1,5 +1,5 @@
 -- A body's commands in turn.
-use Rattle.std.proofs.Common.{◌≡◌, ◌∙◌, refl, sym, ap, ℕ, zero, suc, ◌+◌, ◌-◌, ◌<◌, ◌≤◌, List, [], ◌∷◌, ◌++◌, map, length, length-append, append_assoc, drop, get_or, arith}
+use Rattle.std.proofs.Common.{◌≡◌, ◌∙◌, refl, sym, ap, ℕ, suc, ◌+◌, ◌-◌, ◌<◌, ◌≤◌, List, [], ◌∷◌, ◌++◌, map, length, length-append, append_assoc, drop, get_or, arith}
 use Rattle.std.proofs.lemmas.List.{drop_all, drop_more}
 use Rattle.campl_tree.specs.declared.place.Place.{Place}
 use Rattle.campl_tree.specs.declared.place.Ident.{Ident}
@@ -14,7 +14,6 @@ use Rattle.campl_tree.proofs.Views.{view_body-out}
 use Rattle.campl_types.specs.Names.{Name, found}
 use Rattle.campl_types.specs.World.{World}
 use Rattle.campl_types.specs.Matching.{number_of}
-use Rattle.campl_code.specs.Decisions.{Decision}
 use Rattle.campl_code.specs.Generated.{or_zero}
 use Rattle.campl_code.specs.Instructions as i
 use Rattle.campl_code.specs.Instructions.{Instr}

@@ -1,5 +1,5 @@
 -- The last commands of bodies in the steps in which they are emitted. A place that isn't known yet is written when it is.
-use Rattle.std.specs.Prelude.{ℕ, suc, ◌+◌, false, not, max, List, [], ◌∷◌, ◌++◌, Option, Some, None, if◌then◌else◌, length, slice_set}
+use Rattle.std.specs.Prelude.{ℕ, suc, not, max, List, [], ◌∷◌, ◌++◌, Option, Some, None, if◌then◌else◌, length, slice_set}
 use Rattle.campl_tree.specs.declared.place.Ident.{Ident}
 use Rattle.campl_tree.specs.Plain.Expr.{Expr, Exprs}
 use Rattle.campl_tree.specs.Plain.Pattern.{Pattern}
@@ -14,7 +14,7 @@ use Rattle.campl_code.specs.Compiled.{decision_for}
 use Rattle.campl_code.specs.Generated.{or_zero}
 use Rattle.campl_code.specs.Instructions as i
 use Rattle.campl_code_bodies.specs.Bodies.{Channels, without}
-use Rattle.campl_code_bodies.specs.BodyCode.{number, all_numbers, process_number, link_code, listed}
+use Rattle.campl_code_bodies.specs.BodyCode.{number, all_numbers, process_number, listed}
 use Rattle.campl_gen_exprs.specs.Emission.{counted, appended}
 use Rattle.campl_gen_bodies.specs.Making.{Making, pushed, patched, valued, all_valued, entered, kept, built}
 

@@ -1,3 +1,4 @@
+pub mod Halves
 pub mod Making
 pub mod Actions
 pub mod Commands

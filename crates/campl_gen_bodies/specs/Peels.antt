@@ -1,6 +1,6 @@
 -- The code of a plug in the steps in which it is emitted: the peels in turn, the body of the part that is left, and then those of
 -- the children, the child of the last peel first.
-use Rattle.std.specs.Prelude.{ℕ, suc, ◌+◌, not, List, [], ◌∷◌, ◌++◌, if◌then◌else◌, length, max}
+use Rattle.std.specs.Prelude.{ℕ, suc, not, List, [], ◌∷◌, if◌then◌else◌, length, max}
 use Rattle.campl_tree.specs.declared.service.Side.{Side}
 use Rattle.campl_tree.specs.Plain.Process.{Body, Link, Header, Parts, no_parts, part_then}
 use Rattle.campl_types.specs.Names.{Name, is_among}

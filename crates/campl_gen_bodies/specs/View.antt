@@ -1,5 +1,5 @@
 -- What is made so far, as the definitions see it.
-use Rattle.std.specs.Prelude.{ℕ, List, map, Option, Some, None}
+use Rattle.std.specs.Prelude.{map, Option, Some, None}
 use Rattle.std.specs.Borrow.{Bor}
 use Rattle.campl_tree.specs.declared.process.Part.{Part}
 use Rattle.campl_tree.specs.Plain.Process.{Parts, no_parts, part_then}

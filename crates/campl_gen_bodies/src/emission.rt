@@ -3,16 +3,17 @@
 mod parts;
 mod rows;
 
-ghost use Rattle.std.specs.Prelude.{◌≡◌, OnOk, map};
+ghost use Rattle.std.specs.Prelude.{◌≡◌, IfOk, OnOk, length, map};
 ghost use Rattle.campl_tree.specs.View.{view_last, view_body, view_branch, view_decl};
 ghost use Rattle.campl_gen_channels.specs.View.{view_channels};
 ghost use Rattle.campl_gen_bodies.specs.Making.{built};
 ghost use Rattle.campl_gen_bodies.specs.Commands.{fork_built};
+ghost use Rattle.campl_gen_bodies.specs.Halves.{half_built};
 ghost use Rattle.campl_gen_bodies.specs.View.{view_making};
 
 use crate::actions::act_all;
 use crate::ends::{call, halt, identity};
-use crate::halves::{divide, second_number};
+use crate::halves::{Halves, divide, second_number};
 use crate::known::Known;
 use crate::making::Making;
 use campl_gen_channels::Channels;
@@ -105,11 +106,35 @@ fn emit_fork(
     let at = making.len();
     let n = held.number(&x.name);
     let its = second_number(held)?;
-    let halves = divide(alloc, held, x, left, right)?;
     making.push(Instr::Nil)?;
+    let halves = match divide(alloc, held, x, left, right) {
+        Ok(halves) => halves,
+        Err(error) => return Err(error),
+    };
+    match emit_halves(alloc, known, making, &halves, left, right) {
+        Ok(to) => {
+            making.set(at, Instr::Fork(n, held.next, its, to));
+            Ok(())
+        }
+        Err(error) => Err(error),
+    }
+}
+
+// The two bodies, each with its channels; where the second begins.
+#[cycle(emit)]
+fn emit_halves(
+    alloc: Global,
+    known: &Known<'_>,
+    making: &mut Making,
+    halves: &Halves,
+    left: &Branch,
+    right: &Branch,
+) -> Result<u32, AllocError>
+    ensures to { IfOk result (λ to. to ≡ length (half_built (map view_decl known.now) left.now halves.now.first (view_making making.old)).emission.code) }
+    ensures made { OnOk result (view_making making.new ≡ half_built (map view_decl known.now) right.now halves.now.second (half_built (map view_decl known.now) left.now halves.now.first (view_making making.old))) }
+{
     emit_body(alloc, known, making, &halves.first, &left.body)?;
     let to = making.here()?;
     emit_body(alloc, known, making, &halves.second, &right.body)?;
-    making.set(at, Instr::Fork(n, held.next, its, to));
-    Ok(())
+    Ok(to)
 }

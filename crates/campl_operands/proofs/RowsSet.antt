@@ -1,8 +1,8 @@
 -- What a row sets, one variable after another.
-use Rattle.std.proofs.Common.{◌≡◌, ℕ, suc, List, [], ◌∷◌, Option, Some, None, sym, ◌∙◌, refl}
-use Rattle.std.specs.Prelude.{option_map, slice_set}
+use Rattle.std.proofs.Common.{◌≡◌, ℕ, zero, suc, ◌<◌, length, take, arith, ap, List, [], ◌∷◌, Option, Some, None, sym, ◌∙◌, refl}
+use Rattle.std.specs.Prelude.{option_map, slice_set, slice_get}
 use Rattle.campl_value.specs.Tree.{Tree}
-use Rattle.campl_code.specs.Decisions.{Spot, value_at, values_at, with_first}
+use Rattle.campl_code.specs.Decisions.{Spot, within, value_at, values_at, with_first}
 use Rattle.campl_code.specs.Frames.{set_from}
 
 -- the values at these places, set in turn
@@ -30,3 +30,34 @@ row-is vs (s ∷ spots) n vars = row-next vs spots n vars (value_at vs s) (λ t.
 -- the values are set in turn
 pub in-turn : (vs : List Tree) (spots : List Spot) (n : ℕ) (vars : List Tree) → option_map (λ ts. set_from n ts vars) (values_at vs spots) ≡ row_set vs spots n vars
 in-turn vs spots n vars = sym (row-is vs spots n vars)
+
+-- where one isn't there, nothing is set
+pub none-set : (o : Option Tree) (next : List Tree → Option (List Tree)) (n : ℕ) (vars : List Tree) → option_map (slice_set vars n) o ≡ None → set_next o next n vars ≡ None
+none-set None next n vars e = refl
+none-set (Some t) next n vars e = absurd cc
+
+-- where a variable stays, the next ones are set
+pub same-set : (o : Option Tree) (next : List Tree → Option (List Tree)) (n : ℕ) (vars : List Tree) → option_map (slice_set vars n) o ≡ Some vars → set_next o next n vars ≡ next vars
+same-set None next n vars e = absurd cc
+same-set (Some t) next n vars e = let s : slice_set vars n t ≡ vars = cc in ap next s
+
+onto-all : (v : Tree) (vs : List Tree) (n : ℕ) (o : Option Tree) → option_map (slice_set vs n) o ≡ Some vs → option_map (slice_set (v ∷ vs) (suc n)) o ≡ Some (v ∷ vs)
+onto-all v vs n None e = absurd cc
+onto-all v vs n (Some t) e = let s : slice_set vs n t ≡ vs = cc in ap (λ l. Some (v ∷ l)) s
+
+-- a variable that is set to what it holds
+pub same-at : (vs : List Tree) (w n : ℕ) → n < w → n < length vs → option_map (slice_set vs n) (slice_get (take w vs) n) ≡ Some vs
+same-at [] w n h k = absurd (omega (arith, k))
+same-at (v ∷ vs) zero n h k = absurd (omega (arith, h))
+same-at (v ∷ vs) (suc w) zero h k = refl
+same-at (v ∷ vs) (suc w) (suc n) h k =
+    let a : n < w = omega (arith, h) in
+    let b : n < length vs = omega (arith, k) in
+    onto-all v vs n (slice_get (take w vs) n) (same-at vs w n a b)
+
+itself : (o : Option Tree) → within o [] ≡ o
+itself None = refl
+itself (Some t) = refl
+
+pub set_same : (vs : List Tree) (w n k : ℕ) → k ≡ n → n < w → n < length vs → option_map (slice_set vs n) (value_at (take w vs) (k ∷ [])) ≡ Some vs
+set_same vs w n k e h l = ap (λ (m : ℕ). option_map (slice_set vs n) (value_at (take w vs) (m ∷ []))) e ∙ ap (option_map (slice_set vs n)) (itself (slice_get (take w vs) n)) ∙ same-at vs w n h l

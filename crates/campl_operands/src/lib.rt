@@ -22,4 +22,5 @@ mod variables;
 pub use copying::copies;
 pub use effect::{Effect, RowEffect};
 pub use operands::Operands;
+pub use operations::{calculated, holds};
 pub use variables::Variables;

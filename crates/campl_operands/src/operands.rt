@@ -3,7 +3,7 @@ ghost use Rattle.std.specs.Prelude.{◌≡◌, ◌≤◌, ◌<◌, [], ◌∷◌
 
 use crate::Variables;
 use crate::copying::copies;
-use campl_value::Value;
+use campl_value::{Look, Value};
 use std::alloc::{AllocError, Global};
 use std::marker::Model;
 
@@ -58,6 +58,17 @@ impl Operands {
     {
         self.items.push(value)?;
         Ok(())
+    }
+
+    /// The same of a value that stood elsewhere. An integer is written anew, which costs less than to move it.
+    #[inline]
+    pub fn push_moved(&mut self, value: Value) -> Result<(), AllocError>
+        ensures { OnOk result (self.new ≡ value ∷ self.old) }
+    {
+        match value.look() {
+            Look::Int(n) => self.push(Value::int(n)),
+            _ => self.push(value),
+        }
     }
 
     /// Takes the top, where there is one.
@@ -118,10 +129,26 @@ impl Operands {
             let Some(value) = self.pop() else {
                 return Ok(());
             };
-            variables.push(value)?;
+            variables.push_moved(value)?;
         }
-        variables.reverse();
+        if n > 1 {
+            variables.reverse();
+        }
         Ok(())
+    }
+
+    /// The same, at less cost where there are no other operands.
+    pub fn give_top(&mut self, n: usize, variables: &mut Variables) -> Result<(), AllocError>
+        requires none { variables.old ≡ [] }
+        requires there { n ≤ length self.old }
+        ensures moved { OnOk result (variables.new ≡ reverse (take n self.old)) }
+        ensures rest { OnOk result (self.new ≡ drop n self.old) }
+    {
+        if self.len() == n {
+            self.become_variables(variables);
+            return Ok(());
+        }
+        self.move_top(n, variables)
     }
 
     /// The operands become the variables, in the order in which they came, and those are gone. It takes no memory.

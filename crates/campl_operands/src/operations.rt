@@ -21,7 +21,9 @@ pub(crate) fn calculate(op: Arithmetic, left: &Value, right: &Value) -> Option<V
     }
 }
 
-fn calculated(op: Arithmetic, x: i64, y: i64) -> i64
+/// The two integers calculated with, as 64 bits hold it.
+#[inline]
+pub fn calculated(op: Arithmetic, x: i64, y: i64) -> i64
     ensures { result ≡ calculation op x y }
 {
     match op {
@@ -53,7 +55,9 @@ pub(crate) fn compare(op: Comparison, left: &Value, right: &Value) -> Option<Val
     }
 }
 
-fn holds(op: Comparison, order: Ordering) -> bool
+/// Whether two values in this order compare so.
+#[inline]
+pub fn holds(op: Comparison, order: Ordering) -> bool
     ensures { result ≡ is_so op order }
 {
     match op {

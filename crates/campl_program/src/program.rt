@@ -92,9 +92,9 @@ impl Program {
         }
     }
 
-    // The block with this number, where there is one.
+    /// The block with this number, where there is one. Functions are numbered first, then processes.
     #[inline]
-    fn block(&self, n: usize) -> Option<&Block>
+    pub fn block(&self, n: usize) -> Option<&Block>
         ensures { option_map view_block (option_copied result) ≡ slice_get (blocks (view_code self.now.raw)) n }
     {
         let functions = self.raw.functions.as_slice();

@@ -1,5 +1,5 @@
 -- A run that starts is a run.
-use Rattle.std.proofs.Common.{◌≡◌, ℕ, List, Option, Some, IfOk, Result, Ok, Err, codes, map, sym, subst}
+use Rattle.std.proofs.Common.{◌≡◌, ℕ, List, Some, IfOk, Result, Ok, Err, codes, subst}
 use Rattle.std.specs.declared.alloc.AllocError.{AllocError}
 use Rattle.campl_tree.specs.Plain.Decl.{Program as Source}
 use Rattle.campl_types.specs.World.{World, world_of}

@@ -40,14 +40,14 @@ fn begin_with(alloc: Global, world: &World, services: Vec<Service>) -> Result<Be
     ensures { IfOk result (λ begun. IsRunning begun.program begun.solo) }
 {
     let Ok(number) = number_of_run(alloc, world) else {
-        bail!("memory is out");
+        bail!("`run` has no number");
     };
     let Ok(program) = program_of(alloc, world) else {
-        bail!("memory is out");
+        bail!("the code can't be made");
     };
     match Solo::start(alloc, &program, number, services) {
         Ok(solo) => Ok(Begun { program, solo }),
-        Err(_) => bail!("memory is out"),
+        Err(_) => bail!("the run can't start"),
     }
 }
 

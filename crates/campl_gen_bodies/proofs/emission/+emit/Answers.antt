@@ -1,12 +1,12 @@
 -- What the search leaves open.
 use Rattle.std.proofs.Common.{◌∙◌, ◌-◌, refl, ap, sym, map, take, length, arith}
-use Rattle.campl_tree.specs.declared.process.Branch.{out-Branch}
 use Rattle.campl_tree.specs.declared.process.CaseRow.{out-CaseRow}
 use Rattle.campl_tree.specs.View.{view_decl, view_link, view_body}
 use Rattle.campl_tree.proofs.Views.{view_hcase_row-out, view_branch-out, view_case_row-out, view_part-out}
 use Rattle.campl_code_bodies.specs.BodySizes.{body_size}
 use Rattle.campl_gen_channels.specs.View.{view_channels}
 use Rattle.campl_gen_bodies.specs.Making.{left_at, built}
+use Rattle.campl_gen_bodies.specs.Halves.{half_built}
 use Rattle.campl_gen_bodies.specs.Peels.{children_built, peels_built, left_links}
 use Rattle.campl_gen_bodies.specs.View.{view_making, view_stage, view_child}
 use Rattle.campl_gen_bodies.proofs.Turns.{body-so}
@@ -39,11 +39,11 @@ emit_last-emit_race-requires t c = (rows-fall race-sizes _ _ _ _ t c.in-Race.is 
 pub emit_last-emit_case-requires : goal.emit_last-emit_case-requires
 emit_last-emit_case-requires t c = (rows-fall case-sizes _ _ _ _ t c.in-Case.is (size-Case _ _ _) c.as_slice-in-Case.ensures c.decreases, tt)
 
-pub emit_fork-emit_body-requires : goal.emit_fork-emit_body-requires
-emit_fork-emit_body-requires t c = (let h = ap (λ p. body_size p.1) (view_branch-out c.args.left.now) in omega (arith, h, c.decreases), tt)
+pub emit_halves-emit_body-requires : goal.emit_halves-emit_body-requires
+emit_halves-emit_body-requires t c = (let h = ap (λ p. body_size p.1) (view_branch-out c.args.left.now) in omega (arith, h, c.decreases), tt)
 
-pub emit_fork-emit_body-requires-2 : goal.emit_fork-emit_body-requires-2
-emit_fork-emit_body-requires-2 t c = (let h = ap (λ p. body_size p.1) (view_branch-out c.args.right.now) in omega (arith, h, c.decreases), tt)
+pub emit_halves-emit_body-requires-2 : goal.emit_halves-emit_body-requires-2
+emit_halves-emit_body-requires-2 t c = (let h = ap (λ p. body_size p.1) (view_branch-out c.args.right.now) in omega (arith, h, c.decreases), tt)
 
 pub rows::emit_hcase_rows-emit_hcase_row-requires : goal.rows::emit_hcase_rows-emit_hcase_row-requires
 rows::emit_hcase_rows-emit_hcase_row-requires t c =
@@ -104,14 +104,14 @@ rows::emit_case_row-returns t c =
     ∙ ap (left_at (length s.emission.numbers) s.emission.free) (c.in_ok-emit_body.ensures ∙ ap (built w (view_body (out-CaseRow c.args.row.now).body) c.args.held.now.next (view_channels c.args.held.now)) c.in_ok-enter.ensures)
     ∙ case-row-left w c.args.row.now c.args.held.now.next (view_channels c.args.held.now) s
 
-pub emit_fork-returns : goal.emit_fork-returns
-emit_fork-returns t c =
+pub emit_fork-returns-in-Ok-emit_halves : goal.emit_fork-returns-in-Ok-emit_halves
+emit_fork-returns-in-Ok-emit_halves t c =
     let w = map view_decl c.args.known.now in
-    fork-done w c.args.x.now c.args.left.now c.args.right.now c.args.held.now.next c.in_ok-halves.halves.first.next c.in_ok-halves.halves.second.next c.args.held.now.next c.in_ok-its.its c.in_ok-to.to c.len-at.result c.number-n.result
-    (view_channels c.args.held.now) (view_channels c.in_ok-halves.halves.first) (view_channels c.in_ok-halves.halves.second) (view_making c.args.making.now) (view_making c.emit_body.new.making) (view_making c.emit_body-2.new.making) _
-    c.in_ok-halves.ensures.first c.in_ok-halves.ensures.first_next c.in_ok-halves.ensures.second c.in_ok-halves.ensures.second_next
-    (c.in_ok-emit_body.ensures ∙ ap (built w (view_body (out-Branch c.args.left.now).body) c.in_ok-halves.halves.first.next (view_channels c.in_ok-halves.halves.first)) c.in_ok-push.ensures) c.in_ok-emit_body-2.ensures c.set.ensures
-    c.len-at.ensures c.number-n.ensures refl c.in_ok-its.ensures c.in_ok-to.ensures
+    fork-done w c.args.x.now c.args.left.now c.args.right.now c.args.held.now.next c.in-Ok.halves.first.next c.in-Ok.halves.second.next c.args.held.now.next c.in_ok-its.its c.in-Ok-emit_halves.to c.len-at.result c.number-n.result
+    (view_channels c.args.held.now) (view_channels c.in-Ok.halves.first) (view_channels c.in-Ok.halves.second) (view_making c.args.making.now) (half_built w c.args.left.now c.in-Ok.halves.first (view_making c.push.new.self)) (view_making c.emit_halves.new.making) _
+    c.in-Ok.ensures.first c.in-Ok.ensures.first_next c.in-Ok.ensures.second c.in-Ok.ensures.second_next
+    (ap (half_built w c.args.left.now c.in-Ok.halves.first) c.in_ok-push.ensures) c.in-Ok-emit_halves.ensures.made c.set.ensures
+    c.len-at.ensures c.number-n.ensures refl c.in_ok-its.ensures c.in-Ok-emit_halves.ensures.to
 
 pub parts::emit_left-returns-in_ok-emit_body-in-Some : goal.parts::emit_left-returns-in_ok-emit_body-in-Some
 parts::emit_left-returns-in_ok-emit_body-in-Some t c =

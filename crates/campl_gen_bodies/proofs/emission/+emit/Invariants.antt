@@ -1,6 +1,6 @@
 -- Each step goes on with less to emit, or with as much in an inner function.
 use Rattle.std.proofs.Common.{◌≡◌, ◌+◌, ◌*◌, ◌++◌, ◌≤◌, map, drop, take, length}
-use Rattle.campl_tree.specs.View.{view_last, view_body, view_hcase_row, view_branch, view_case_row, view_part, parts as part_list, view_decl}
+use Rattle.campl_tree.specs.View.{view_last, view_body, view_hcase_row, view_branch, view_case_row, parts as part_list, view_decl}
 use Rattle.campl_code_bodies.specs.BodySizes.{body_size}
 use Rattle.campl_gen_channels.specs.Orders.{view_part_at}
 use Rattle.campl_gen_channels.specs.View.{view_channels}
@@ -18,6 +18,9 @@ decreases-emit_last l = 8 * body_size (view_last l.last.now) + 1
 
 abbrev pub decreases-emit_fork : goal.decreases-emit_fork
 decreases-emit_fork l = 8 * (body_size (view_branch l.left.now).1 + body_size (view_branch l.right.now).1) + 7
+
+abbrev pub decreases-emit_halves : goal.decreases-emit_halves
+decreases-emit_halves l = 8 * (body_size (view_branch l.left.now).1 + body_size (view_branch l.right.now).1) + 6
 
 abbrev pub decreases-rows::emit_hcase : goal.decreases-rows::emit_hcase
 decreases-rows::emit_hcase l = 8 * hcase-sizes l.rows.now + 7

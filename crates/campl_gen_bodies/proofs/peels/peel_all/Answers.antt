@@ -1,8 +1,8 @@
-use Rattle.std.proofs.Common.{◌∙◌, ◌+◌, ◌-◌, ap, sym, map, drop, length, arith}
-use Rattle.campl_tree.specs.View.{view_link, view_part, parts}
+use Rattle.std.proofs.Common.{◌∙◌, ap, sym, map, arith}
+use Rattle.campl_tree.specs.View.{view_link, parts}
 use Rattle.campl_gen_channels.specs.Orders.{view_part_at}
 use Rattle.campl_gen_channels.specs.View.{view_channels}
-use Rattle.campl_gen_bodies.specs.Peels.{children_built, peels_built, left_links, heaviest, heaviest_child}
+use Rattle.campl_gen_bodies.specs.Peels.{children_built, peels_built, left_links, heaviest_child}
 use Rattle.campl_gen_bodies.specs.View.{view_making, view_child}
 use Rattle.campl_gen_bodies.proofs.Peeled.{peels-begin, order-at, part-light, still-light, all-peeled, rest-slice}
 use Rattle.campl_gen_bodies.proofs.peels.peel_all.Goals as goal

@@ -5,11 +5,11 @@ use Rattle.campl_eval.proofs.Kept.{Same}
 use Rattle.campl_eval.proofs.Size.{rest, rests, total}
 use Rattle.campl_eval.proofs.eval.Eval.go.Given as goal
 
-abbrev pub invariant-loop-left : goal.invariant-loop-left
-invariant-loop-left l = record {
+abbrev pub invariant-left : goal.invariant-left
+invariant-left l = record {
   room : l.self.spent + l.left ≡ l.fn.self.spent + l.fn.calls;
   kept : Same (code_of l.program) (seen l.fn.self.machine.frame) (seens l.fn.self.machine.callers) l.fn.calls (seen l.self.machine.frame) (seens l.self.machine.callers) l.left;
 }
 
-abbrev pub decreases-loop-left : goal.decreases-loop-left
-decreases-loop-left l = l.left * (total (blocks (code_of l.program)) + 1) + (rest (code_of l.program) (seen l.self.machine.frame) + rests (code_of l.program) (seens l.self.machine.callers))
+abbrev pub decreases-left : goal.decreases-left
+decreases-left l = l.left * (total (blocks (code_of l.program)) + 1) + (rest (code_of l.program) (seen l.self.machine.frame) + rests (code_of l.program) (seens l.self.machine.callers))

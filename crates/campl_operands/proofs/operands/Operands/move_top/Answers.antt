@@ -10,6 +10,6 @@ loop-i-preserved c =
     let h = top-next c.loop-i._i c.args.self.now c.in-Some.value c.pop.new.self (sym c.loop-i.invariant.rest ∙ c.in-Some.ensures) in
     let n : suc c.loop-i._i ≡ c.loop-i._i + 1 = omega arith in
     record {
-      moved = c.in_ok-push.ensures ∙ ap (λ l. l ++ c.in-Some.value ∷ []) c.loop-i.invariant.moved ∙ sym h.0 ∙ ap (λ (k : ℕ). take k c.args.self.now) n;
+      moved = c.in_ok-push_moved.ensures ∙ ap (λ l. l ++ c.in-Some.value ∷ []) c.loop-i.invariant.moved ∙ sym h.0 ∙ ap (λ (k : ℕ). take k c.args.self.now) n;
       rest = sym h.1 ∙ ap (λ (k : ℕ). drop k c.args.self.now) n;
     }

@@ -1,19 +1,19 @@
-use Rattle.std.proofs.Common.{◌≡◌, ◌∙◌, ap, sym, arith, suc, ◌+◌, ◌<◌, ◌≤◌, length, drop, None}
-use Rattle.std.specs.Prelude.{get_or}
+use Rattle.std.proofs.Common.{◌≡◌, ◌∙◌, subst, sym, arith, suc, ◌+◌, ◌<◌, ◌≤◌, length, drop, None}
+use Rattle.std.specs.Prelude.{get_or, option_map, slice_set}
 use Rattle.std.proofs.lemmas.List.{at_drop_all, at_drop_more}
-use Rattle.campl_code.specs.Decisions.{value_at}
-use Rattle.campl_operands.proofs.RowsSet.{row_set, set_next, in-turn}
+use Rattle.campl_code.specs.Decisions.{Spot, value_at}
+use Rattle.campl_operands.proofs.RowsSet.{row_set, none-set, in-turn}
 use Rattle.campl_operands.proofs.variables.Variables.put_row.Goals as goal
 
-pub returns-in_default : goal.returns-in_default
-returns-in_default c =
+pub returns-in-Missing : goal.returns-in-Missing
+returns-in-Missing c =
     let vs = c.args.values.now in
     let spots = c.args.spots.now in
     let here : c.loop-i.i < length spots = omega (arith, c.loop-i-test.true) in
-    let none : value_at vs (get_or spots c.loop-i.i c.index-spots-i.result) ≡ None = cc in
+    let missing : option_map (slice_set c.loop-i.self (c.args.first + c.loop-i.i)) (value_at vs (get_or spots c.loop-i.i c.index-spots-i.result)) ≡ None = subst (λ (s : Spot). option_map (slice_set c.loop-i.self (c.args.first + c.loop-i.i)) (value_at vs s) ≡ None) (c.as_slice.ensures ∙ c.index-spots-i.is) c.in-Missing.ensures in
     in-turn vs spots c.args.first c.args.self.now ∙ sym c.loop-i.invariant
     ∙ at_drop_more (λ s. row_set vs s (c.args.first + c.loop-i.i) c.loop-i.self) spots c.loop-i.i c.index-spots-i.result here
-    ∙ ap (λ o. set_next o (row_set vs (drop (c.loop-i.i + 1) spots) (suc (c.args.first + c.loop-i.i))) (c.args.first + c.loop-i.i) c.loop-i.self) none
+    ∙ none-set (value_at vs (get_or spots c.loop-i.i c.index-spots-i.result)) (row_set vs (drop (c.loop-i.i + 1) spots) (suc (c.args.first + c.loop-i.i))) (c.args.first + c.loop-i.i) c.loop-i.self missing
 
 pub returns : goal.returns
 returns c =
