@@ -120,7 +120,7 @@ fn people(alloc: Global, life: Life, services: Vec<Service>) -> Result<Vec<ProcP
     processes.push(unborn(life))?;
     let mut far = 1;
     for service in services {
-        processes.push(unborn(Life::Serves(far, service)))?;
+        processes.push(unborn(Life::Serves(far, Box::new(alloc, service)?)))?;
         far += 2;
     }
     Ok(processes)
