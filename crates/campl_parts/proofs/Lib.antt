@@ -1,4 +1,5 @@
 pub mod Choosing
+pub mod Living
 pub mod Padded
 pub mod Places
 pub mod Served

@@ -30,13 +30,13 @@ IsSuited false s message = (e : ℕ) → hears e s message ≡ None
 abbrev pub IsRoomy : Life → Type 0
 IsRoomy l.Ended = Unit {0}
 IsRoomy (l.Runs r) = Unit {0}
-IsRoomy (l.Serves e service) = 1 ≤ service.spare
+IsRoomy (l.Serves e service) = 1 ≤ service.value.spare
 
 -- it is a service that is given what it waits for, with the memory for it
 abbrev pub IsReady : Life → Option Message → Type 0
 IsReady l.Ended given = ⊥
 IsReady (l.Runs r) given = ⊥
-IsReady (l.Serves e service) given = Suits (services.want service.serving) given × (1 ≤ service.spare)
+IsReady (l.Serves e service) given = Suits (services.want service.value.serving) given × (1 ≤ service.value.spare)
 
 -- it goes on, one step later
 abbrev pub Goes : Proc → Proc → Type 0

@@ -20,8 +20,8 @@ impl ProcPart {
     {
         match &self.life {
             Life::Ended => Want::Rests,
-            Life::Runs(running) => running.want(program, drawn, branch),
-            Life::Serves(end, service) => serve(*end, service),
+            Life::Runs(running) => running.get().want(program, drawn, branch),
+            Life::Serves(end, service) => serve(*end, service.as_ref()),
         }
     }
 

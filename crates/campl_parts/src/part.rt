@@ -1,7 +1,12 @@
 //! Processes and services.
+ghost use Rattle.std.specs.Prelude.{◌≡◌, IfOk};
+ghost use Rattle.campl_parts.specs.declared.part.Life.TheVariants.{Runs};
+
 use crate::ends::Ends;
 use campl_kept::Kept;
 use campl_service::Service;
+use sqlite_items::Boxed;
+use std::alloc::{AllocError, Global};
 
 /// A process that runs: its block, the ends that it holds, and how far the expressions of its next command are evaluated.
 /// Functions are numbered first, then processes.
@@ -12,13 +17,25 @@ pub struct Running {
     pub kept: Kept,
 }
 
-/// What a process or service is at a time.
+/// What a process or service is at a time. It is small, so that it costs little to hand on.
 pub enum Life {
     /// It is gone.
     Ended,
-    Runs(Running),
+    Runs(Boxed<Running>),
     /// A service, at its end.
-    Serves(u32, Service),
+    Serves(u32, Box<Service>),
+}
+
+impl Life {
+    // A process that runs. An error means that memory is out.
+    pub(crate) fn runs(alloc: Global, running: Running) -> Result<Life, AllocError>
+        ensures { IfOk result (λ life. life ≡ Runs running) }
+    {
+        match Boxed::new(alloc, running) {
+            Ok(running) => Ok(Life::Runs(running)),
+            Err(error) => Err(error),
+        }
+    }
 }
 
 impl Drop for Life {

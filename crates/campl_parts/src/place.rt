@@ -106,10 +106,11 @@ impl Begun {
         ensures { IfOk result (λ life. IsLifeOf (code_of program.now) (Begins (begun_of self)) (life_of life)) }
     {
         let kept = Kept::begin(alloc, program, self.block, self.at, self.variables)?;
-        Ok(Life::Runs(Running {
+        let running = Running {
             block: self.block,
             ends: self.ends,
             kept,
-        }))
+        };
+        Life::runs(alloc, running)
     }
 }

@@ -160,13 +160,15 @@ impl Running {
             Err(error) => return Err(error),
         };
         match kept.advance(alloc, program, 1) {
-            Ok(()) => Ok(Life::Runs(Running {
-                block: self.block,
-                ends,
-                kept,
-            })),
-            Err(error) => Err(error),
+            Ok(()) => {}
+            Err(error) => return Err(error),
         }
+        let running = Running {
+            block: self.block,
+            ends,
+            kept,
+        };
+        Life::runs(alloc, running)
     }
 }
 

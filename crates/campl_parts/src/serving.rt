@@ -89,7 +89,7 @@ impl ProcPart {
         ensures room { OnOk result (IsRoomy self.new.life) }
     {
         match &mut self.life {
-            Life::Serves(_, service) => service.make_room(),
+            Life::Serves(_, service) => service.as_mut().make_room(),
             Life::Ended => Ok(()),
             Life::Runs(_) => Ok(()),
         }
@@ -122,7 +122,7 @@ impl Life {
         ensures { Hears message (life_of self.old) (life_of self.new) }
     {
         match self {
-            Life::Serves(_, service) => hear(service, message),
+            Life::Serves(_, service) => hear(service.as_mut(), message),
             Life::Ended => drop(message),
             Life::Runs(_) => drop(message),
         }
@@ -133,7 +133,7 @@ impl Life {
         ensures { Says result (life_of self.old) (life_of self.new) }
     {
         match self {
-            Life::Serves(_, service) => say(service),
+            Life::Serves(_, service) => say(service.as_mut()),
             Life::Ended => None,
             Life::Runs(_) => None,
         }

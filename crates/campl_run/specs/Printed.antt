@@ -25,7 +25,7 @@ seen (Some s) = Some s.now.serving
 abbrev pub serving_in : Life → Option Serving
 serving_in l.Ended = None
 serving_in (l.Runs r) = None
-serving_in (l.Serves e service) = Some service.serving
+serving_in (l.Serves e service) = Some service.value.serving
 
 -- the service that is there, if one is
 abbrev pub serving_of : Option ProcPart → Option Serving

@@ -85,7 +85,7 @@ fn service_in(process: &ProcPart) -> Option<&Service>
     match &process.life {
         Life::Ended => None,
         Life::Runs(_) => None,
-        Life::Serves(_, service) => Some(service),
+        Life::Serves(_, service) => Some(service.as_ref()),
     }
 }
 

@@ -103,7 +103,7 @@ fn serving(life: &Life) -> Option<&Service>
     match life {
         Life::Ended => None,
         Life::Runs(_) => None,
-        Life::Serves(_, service) => Some(service),
+        Life::Serves(_, service) => Some(service.as_ref()),
     }
 }
 

@@ -170,8 +170,8 @@ fn stopped(life: &Life) -> Option<Next>
 {
     match life {
         Life::Ended => Some(Next::Ended),
-        Life::Runs(running) => stopped_kept(&running.kept),
-        Life::Serves(_, service) => stopped_serving(service.wants()),
+        Life::Runs(running) => stopped_kept(&running.get().kept),
+        Life::Serves(_, service) => stopped_serving(service.as_ref().wants()),
     }
 }
 

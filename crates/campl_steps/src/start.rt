@@ -3,7 +3,7 @@ ghost use Rattle.std.specs.Prelude.{◌≡◌, ◌<◌, ◌≤◌, ◌+◌, ◌*
 ghost use Rattle.campl_code.specs.Instructions.{Block};
 ghost use Rattle.campl_code.specs.Frames.{frame_size};
 ghost use Rattle.campl_eval.specs.View.{code_of};
-ghost use Rattle.campl_cells.specs.Parts.{written};
+ghost use Rattle.campl_cells.specs.Parts.{Serves, written};
 ghost use Rattle.campl_cells.specs.Steps.{borne};
 ghost use Rattle.campl_cells.specs.Starts.{first_ends, unborn};
 ghost use Rattle.campl_parts.specs.Ends.{ends_of};
@@ -120,10 +120,20 @@ fn people(alloc: Global, life: Life, services: Vec<Service>) -> Result<Vec<ProcP
     processes.push(unborn(life))?;
     let mut far = 1;
     for service in services {
-        processes.push(unborn(Life::Serves(far, service)))?;
+        processes.push(attending(alloc, far, service)?)?;
         far += 2;
     }
     Ok(processes)
+}
+
+// A service at this end.
+fn attending(alloc: Global, end: u32, service: Service) -> Result<ProcPart, AllocError>
+    ensures { IfOk result (λ part. proc_of part ≡ unborn (Serves end service.serving)) }
+{
+    match Box::new(alloc, service) {
+        Ok(service) => Ok(unborn(Life::Serves(end, service))),
+        Err(_) => Err(AllocError),
+    }
 }
 
 // A process or service that was there from the start.
