@@ -43,7 +43,7 @@ pub fn run_file<F: Shelf>(
         (IsRefusedRun (files F.holds F.faults shelf.old shelf.new) file.now (texts script.entry)) }
 {
     match read_source(alloc, file, shelf) {
-        Ok(text) => run_text(alloc, &text, script, budget, shelf),
+        Ok(text) => run_text(alloc, text, script, budget, shelf),
         Err(refusal) => Err(refusal),
     }
 }
@@ -51,37 +51,38 @@ pub fn run_file<F: Shelf>(
 // Runs a text, with the script of a file where one is named.
 fn run_text<F: Shelf>(
     alloc: Global,
-    text: &Text,
+    text: Text,
     script: Option<&str>,
     budget: u64,
     shelf: &mut F,
 ) -> Result<Performance, Refusal>
     ensures { MatchResult result
-        (λ p. RunsText text.now (HasScripts (files F.holds F.faults shelf.old shelf.new) (texts script.entry)) budget (report_of p) p.output.items)
-        (IsRefusedText text.now (IsRefusedScripts (files F.holds F.faults shelf.old shelf.new) (texts script.entry))) }
+        (λ p. RunsText text (HasScripts (files F.holds F.faults shelf.old shelf.new) (texts script.entry)) budget (report_of p) p.output.items)
+        (IsRefusedText text (IsRefusedScripts (files F.holds F.faults shelf.old shelf.new) (texts script.entry))) }
 {
-    let world = match world_of_text(alloc, text) {
-        Ok(world) => world,
-        Err(refusal) => return Err(refusal),
-    };
-    run_world(alloc, &world, script, budget, shelf)
+    let judged = world_of_text(alloc, &text);
+    drop(text);
+    match judged {
+        Ok(world) => run_world(alloc, world, script, budget, shelf),
+        Err(refusal) => Err(refusal),
+    }
 }
 
 // Runs a source, with the script of a file where one is named.
 fn run_world<F: Shelf>(
     alloc: Global,
-    world: &World,
+    world: World,
     script: Option<&str>,
     budget: u64,
     shelf: &mut F,
 ) -> Result<Performance, Refusal>
-    requires { IsAcceptedWorld (map view_decl world.now) }
-    ensures { (tree : Program) → IsAccepted (view_program tree) → map view_decl world.now ≡ world_of (view_program tree)
+    requires { IsAcceptedWorld (map view_decl world) }
+    ensures { (tree : Program) → IsAccepted (view_program tree) → map view_decl world ≡ world_of (view_program tree)
         → MatchResult result
         (λ p. RunsTree tree (HasScripts (files F.holds F.faults shelf.old shelf.new) (texts script.entry)) budget (report_of p) p.output.items)
         (IsRefusedScripts (files F.holds F.faults shelf.old shelf.new) (texts script.entry) (heading_of tree)) }
 {
-    let scripts = match scripts_for(alloc, world, script, shelf) {
+    let scripts = match scripts_for(alloc, &world, script, shelf) {
         Ok(scripts) => scripts,
         Err(refusal) => return Err(refusal),
     };
@@ -94,16 +95,16 @@ fn run_world<F: Shelf>(
 // Runs a source with these scripts.
 fn run_with(
     alloc: Global,
-    world: &World,
+    world: World,
     scripts: Scripts,
     budget: u64,
 ) -> Result<Performance, AllocError>
-    requires scripts { length scripts ≡ length (services_of (map view_decl world.now)) }
-    requires accepted { IsAcceptedWorld (map view_decl world.now) }
-    ensures { (source : Source) → IsAccepted source → map view_decl world.now ≡ world_of source
+    requires scripts { length scripts ≡ length (services_of (map view_decl world)) }
+    requires accepted { IsAcceptedWorld (map view_decl world) }
+    ensures { (source : Source) → IsAccepted source → map view_decl world ≡ world_of source
         → IfOk result (λ p. HasRun source scripts budget (report_of p) p.output.items) }
 {
-    let code = match generate(alloc, world) {
+    let code = match generate(alloc, &world) {
         Ok(code) => code,
         Err(error) => return Err(error),
     };
@@ -125,7 +126,7 @@ pub fn run_generated(alloc: Global, stages: u32) -> Result<Performance, Refusal>
         Ok(text) => text,
         Err(_) => return Err(Refusal::OutOfMemory),
     };
-    let performance = match run_alone(alloc, &text, 60 * u64::from(stages) + 200) {
+    let performance = match run_alone(alloc, text, 60 * u64::from(stages) + 200) {
         Ok(performance) => performance,
         Err(refusal) => return Err(refusal),
     };
@@ -136,26 +137,28 @@ pub fn run_generated(alloc: Global, stages: u32) -> Result<Performance, Refusal>
 }
 
 // Runs a text without lines of scripts.
-fn run_alone(alloc: Global, text: &Text, budget: u64) -> Result<Performance, Refusal>
-    ensures { MatchResult result (λ p. RunsText text.now HaveNoLines budget (report_of p) p.output.items) (IsRefusedFor (IsSourceFault text.now)) }
+fn run_alone(alloc: Global, text: Text, budget: u64) -> Result<Performance, Refusal>
+    ensures { MatchResult result (λ p. RunsText text HaveNoLines budget (report_of p) p.output.items) (IsRefusedFor (IsSourceFault text)) }
 {
-    let world = match world_of_text(alloc, text) {
+    let judged = world_of_text(alloc, &text);
+    drop(text);
+    let world = match judged {
         Ok(world) => world,
         Err(refusal) => return Err(refusal),
     };
-    match run_world_alone(alloc, &world, budget) {
+    match run_world_alone(alloc, world, budget) {
         Ok(performance) => Ok(performance),
         Err(_) => Err(Refusal::OutOfMemory),
     }
 }
 
 // Runs a source without lines of scripts.
-fn run_world_alone(alloc: Global, world: &World, budget: u64) -> Result<Performance, AllocError>
-    requires { IsAcceptedWorld (map view_decl world.now) }
-    ensures { (tree : Program) → IsAccepted (view_program tree) → map view_decl world.now ≡ world_of (view_program tree)
+fn run_world_alone(alloc: Global, world: World, budget: u64) -> Result<Performance, AllocError>
+    requires { IsAcceptedWorld (map view_decl world) }
+    ensures { (tree : Program) → IsAccepted (view_program tree) → map view_decl world ≡ world_of (view_program tree)
         → IfOk result (λ p. RunsTree tree HaveNoLines budget (report_of p) p.output.items) }
 {
-    let scripts = match scripts_without_lines(alloc, world) {
+    let scripts = match scripts_without_lines(alloc, &world) {
         Ok(scripts) => scripts,
         Err(error) => return Err(error),
     };

@@ -3,7 +3,7 @@
 //! ```text
 //! let names = services_of(alloc, &world)?;
 //! let scripts = read_script(alloc, &text, names.as_slice())?; // or Scripts::none(alloc, count)?
-//! let ran = run(alloc, &world, code, scripts, budget)?;
+//! let ran = run(alloc, world, code, scripts, budget)?;
 //! ```
 //!
 //! In reading order: `ended`, how a run ends; `services`, the services of a source and their start; `number`, that of `run` in the

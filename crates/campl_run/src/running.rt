@@ -40,31 +40,33 @@ pub struct Ran {
 
 /// Runs the code of a source with these scripts, one for each service in the order of the heading, until it ends or as many steps
 /// are made as the budget allows. It is the run of one at a time: again and again the first process or service, in the order of
-/// their names, that has a step makes it. The source is accepted, the code stands for it, and the code's jumps lead onward.
+/// their names, that has a step makes it. The source is accepted, the code stands for it, and the code's jumps lead onward. The world
+/// goes before the first step, and the code after the last.
 ///
 /// # Errors
 ///
 /// `AllocError` where memory wants, or where there are 2^31 processes or channels.
 pub fn run(
     alloc: Global,
-    world: &World,
+    world: World,
     code: RawCode,
     scripts: Scripts,
     budget: u64,
 ) -> Result<Ran, AllocError>
-    requires accepted { (source : Source) × IsAccepted source × (map view_decl world.now ≡ world_of source) × StandsFor (world_of source) (view_code code) }
+    requires accepted { (source : Source) × IsAccepted source × (map view_decl world ≡ world_of source) × StandsFor (world_of source) (view_code code) }
     requires onward { IsForward (view_code code) }
-    requires scripts { length scripts ≡ length (services_of (map view_decl world.now)) }
-    ensures { (source : Source) → IsAccepted source → map view_decl world.now ≡ world_of source → StandsFor (world_of source) (view_code code)
+    requires scripts { length scripts ≡ length (services_of (map view_decl world)) }
+    ensures { (source : Source) → IsAccepted source → map view_decl world ≡ world_of source → StandsFor (world_of source) (view_code code)
         → IfOk result (IsRunThrough source scripts budget) }
 {
-    let Ok(names) = services_of(alloc, world) else {
+    let Ok(names) = services_of(alloc, &world) else {
         return Err(AllocError);
     };
+    let Ok(number) = number_of_run(alloc, &world) else {
+        return Err(AllocError);
+    };
+    drop(world);
     let Ok(services) = services_at_start(alloc, names.as_slice(), scripts) else {
-        return Err(AllocError);
-    };
-    let Ok(number) = number_of_run(alloc, world) else {
         return Err(AllocError);
     };
     let Ok(program) = Program::assemble(alloc, code) else {
@@ -72,24 +74,26 @@ pub fn run(
     };
     match Solo::start(alloc, &program, number, services) {
         Err(error) => Err(error),
-        Ok(mut solo) => run_on(alloc, &program, names.as_slice(), &mut solo, budget),
+        Ok(mut solo) => run_on(alloc, program, names.as_slice(), &mut solo, budget),
     }
 }
 
 // Runs on from the start of a source whose services have these names.
 fn run_on(
     alloc: Global,
-    program: &Program,
+    program: Program,
     names: &[ServiceName],
     solo: &mut Solo,
     budget: u64,
 ) -> Result<Ran, AllocError>
-    requires { (source : Source) × (scripts : List Lines) × IsAtStart source (code_of program.now) scripts solo.old }
-    ensures { (source : Source) (scripts : List Lines) → IsAtStart source (code_of program.now) scripts solo.old
+    requires { (source : Source) × (scripts : List Lines) × IsAtStart source (code_of program) scripts solo.old }
+    ensures { (source : Source) (scripts : List Lines) → IsAtStart source (code_of program) scripts solo.old
         → names.now ≡ services_of (world_of source) → IfOk result (IsRunThrough source scripts budget) }
 {
     let mut journal = Journal::new(alloc);
-    match solo.run(alloc, program, &mut journal, budget) {
+    let stopped = solo.run(alloc, &program, &mut journal, budget);
+    drop(program);
+    match stopped {
         Err(error) => Err(error),
         Ok(stop) => tell(alloc, stop, &solo.config, journal, names),
     }
