@@ -115,7 +115,7 @@ impl Eval {
                     left -= 1;
                     self.spent += 1;
                 }
-                Flow::Gives => return self.values(),
+                Flow::Gives => return Ok(self.values(alloc)),
                 Flow::TooDeep => return Ok(Turn::TooDeep(self.spent)),
                 Flow::Faulty => return Ok(Turn::Faulty(self.spent)),
                 Flow::OutOfMemory => return Err(AllocError),
@@ -124,14 +124,13 @@ impl Eval {
     }
 
     // Takes the values that the process's instruction needs.
-    fn values(&mut self) -> Result<Turn, AllocError>
-        ensures values { IfOk result (λ turn. GivesAll turn (reverse self.old.machine.frame.operands) self.old.spent) }
+    fn values(&mut self, alloc: Global) -> Turn
+        ensures values { GivesAll result (reverse self.old.machine.frame.operands) self.old.spent }
         ensures at { self.new.machine.frame.at ≡ self.old.machine.frame.at }
         ensures variables { self.new.machine.frame.variables ≡ self.old.machine.frame.variables }
     {
-        let n = self.machine.frame.operands.len();
-        let values = self.machine.frame.operands.take_top(n)?;
-        Ok(Turn::Done(values, self.spent))
+        let values = self.machine.frame.operands.take_all(alloc);
+        Turn::Done(values, self.spent)
     }
 }
 

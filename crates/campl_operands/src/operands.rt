@@ -6,6 +6,7 @@ use crate::copying::copies;
 use campl_value::{Look, Value};
 use std::alloc::{AllocError, Global};
 use std::marker::Model;
+use std::mem;
 
 /// Operands on one another. Contracts see the top first.
 #[derive(Drop)]
@@ -115,6 +116,14 @@ impl Operands {
         let at = self.items.len() - n;
         let taken = self.items.split_off(at)?;
         Ok(taken)
+    }
+
+    /// Takes all operands, in the order in which they came. It takes no memory.
+    pub fn take_all(&mut self, alloc: Global) -> Vec<Value>
+        ensures taken { result.items ≡ reverse self.old }
+        ensures rest { self.new ≡ [] }
+    {
+        mem::replace(&mut self.items, Vec::new(alloc))
     }
 
     /// Moves the topmost n operands to the variables, of which there were none, in the order in which they came. An error means

@@ -58,10 +58,7 @@ returns-in-Faulty c = faulty (code_of c.args.program.now) (seen c.args.self.now.
 pub left-init : goal.left-init
 left-init c = record { room = refl; kept = same-first (code_of c.args.program.now) (seen c.args.self.now.machine.frame) (seens c.args.self.now.machine.callers) c.args.calls }
 
-weaker : {T E : Type 0} {P Q : T → Type 0} (r : Result T E) → ((t : T) → P t → Q t) → IfOk r P → IfOk r Q
-weaker (Ok t) h p = h t p
-weaker (Err e) h p = tt
 
 pub returns-in-Gives : goal.returns-in-Gives
-returns-in-Gives c = weaker c.values.result (λ turn t. gives-all (code_of c.args.program.now) (seen c.args.self.now.machine.frame) (seens c.args.self.now.machine.callers) c.args.calls (seen c.leap.new.self) (seens c.left.self.machine.callers) c.left.left (kept (code_of c.args.program.now) (seens c.left.self.machine.callers) (seen c.args.self.now.machine.frame) (seens c.args.self.now.machine.callers) c.args.calls c.left.left (seen c.left.self.machine.frame) (seen c.leap.new.self) c.in_ok-leap.ensures c.left.invariant.kept)
-    (c.args.self.now.spent + c.args.calls) c.left.self.spent c.left.invariant.room (seen c.step.new.self.frame) (seen c.values.new.self.machine.frame) (seens c.values.new.self.machine.callers) c.values.new.self.spent turn (rw c.in-Gives.is at c.step.ensures) t c.values.ensures.at c.values.ensures.variables) c.values.ensures.values
+returns-in-Gives c = gives-all (code_of c.args.program.now) (seen c.args.self.now.machine.frame) (seens c.args.self.now.machine.callers) c.args.calls (seen c.leap.new.self) (seens c.left.self.machine.callers) c.left.left (kept (code_of c.args.program.now) (seens c.left.self.machine.callers) (seen c.args.self.now.machine.frame) (seens c.args.self.now.machine.callers) c.args.calls c.left.left (seen c.left.self.machine.frame) (seen c.leap.new.self) c.in_ok-leap.ensures c.left.invariant.kept)
+    (c.args.self.now.spent + c.args.calls) c.left.self.spent c.left.invariant.room (seen c.step.new.self.frame) (seen c.values.new.self.machine.frame) (seens c.values.new.self.machine.callers) c.values.new.self.spent c.values.result (rw c.in-Gives.is at c.step.ensures) c.values.ensures.values c.values.ensures.at c.values.ensures.variables
