@@ -30,14 +30,6 @@ first_more n = fun_ext (λ m. go m (same n m))
     go m (inl e) = rw (eq-eqb n m e, lt-ltb m (suc n) (omega (arith, e))) (ap (λ k. Some (near k)) e)
     go m (inr ne) = rw (ne_eqb n m ne) (ap (λ b. if b then Some (near m) else None) (before m ne (split (nat_lt m n))))
 
--- no channel, no end
-pub first_none : ◌≡◌ {A = Ends} (λ n. None) (first_ends 0)
-first_none = fun_ext (λ m. go m (split (nat_lt m 0)))
-  where
-    go : (m : ℕ) → (nat_lt m 0 ≡ true) ⊎ (nat_lt m 0 ≡ false) → None ≡ first_ends 0 m
-    go m (inl i) = absurd (let h = ltb-true m 0 i in let z : ⊥ = omega (arith, h) in z)
-    go m (inr i) = rw i refl
-
 less : (n c : ℕ) → c < n → n - c ≡ suc (n - suc c)
 less n c h = omega (arith, h)
 

@@ -2,11 +2,8 @@ use Rattle.std.proofs.Common.{ap, ◌∙◌, arith}
 use Rattle.campl_cells.specs.Parts.{near}
 use Rattle.campl_cells.specs.Starts.{first_ends}
 use Rattle.campl_cells.specs.Wants.{set_end}
-use Rattle.campl_steps.proofs.Starting.{first_more, first_none}
+use Rattle.campl_steps.proofs.Starting.{first_more}
 use Rattle.campl_steps.proofs.start.near_ends.Goals as goal
-
-pub loop-channel-init : goal.loop-channel-init
-loop-channel-init c = c.new-ends.ensures ∙ first_none
 
 pub loop-channel-preserved : goal.loop-channel-preserved
 loop-channel-preserved c =
