@@ -1,5 +1,5 @@
--- Channels behind the last that was set have no end, and those of the first four stand by themselves.
-use Rattle.std.proofs.Common.{◌≡◌, ◌<◌, ℕ, zero, suc, List, [], ◌∷◌, ◌++◌, Option, Some, None, length, map, drop, set, slice_get, refl, sym, ap, subst, ◌∙◌, arith}
+-- Channels behind the last that was set have no end.
+use Rattle.std.proofs.Common.{◌≡◌, ◌<◌, ℕ, zero, suc, List, [], ◌∷◌, ◌++◌, Option, Some, None, length, map, set, slice_get, refl, ap, ◌∙◌}
 use Rattle.std.specs.Prelude.{replicate}
 use Rattle.std.proofs.Math.Path.{fun_ext}
 use Rattle.campl_cells.specs.Wants.{end_at, set_end}
@@ -18,20 +18,6 @@ pub set_padded : (xs : List (Option ℕ)) (k n e : ℕ) → n < length (xs ++ re
     ends_of (set (xs ++ replicate k None) n (Some e)) ≡ set_end n e (ends_of xs)
 set_padded xs k n e h = read_set found (xs ++ replicate k None) n (Some e) h ∙ ap (put n (Some e)) (fun_ext (padded xs k))
 
--- no end
-
-pub none_set : ends_of (None ∷ None ∷ None ∷ None ∷ []) ≡ (λ n. None)
-none_set = fun_ext go
-  where
-    go : (n : ℕ) → ends_of (None ∷ None ∷ None ∷ None ∷ []) n ≡ None
-    go zero = refl
-    go (suc zero) = refl
-    go (suc (suc zero)) = refl
-    go (suc (suc (suc zero))) = refl
-    go (suc (suc (suc (suc n)))) = refl
-
--- the ends of channels in turn
-
 given-at : (items : List (Option ℕ)) (channels : List ℕ) (n : ℕ) → ends_of (map (ends_of items) channels) n ≡ end_at (ends_of items) (slice_get channels n)
 given-at items [] n = refl
 given-at items (c ∷ cs) zero = refl
@@ -39,16 +25,3 @@ given-at items (c ∷ cs) (suc n) = given-at items cs n
 
 pub handed-given : (ends items : List (Option ℕ)) (channels : List ℕ) → ends ≡ handed items channels → ends_of ends ≡ (λ n. end_at (ends_of items) (slice_get channels n))
 handed-given ends items channels e = ap ends_of e ∙ fun_ext (given-at items channels)
-
--- one end, and those of the other channels
-pub next-given : (items : List (Option ℕ)) (channels others : List ℕ) (end : Option ℕ) (rest : List (Option ℕ)) → end ≡ end_at (ends_of items) (slice_get channels 0) →
-    others ≡ drop 1 channels → ends_of rest ≡ (λ n. end_at (ends_of items) (slice_get others n)) → ends_of (end ∷ rest) ≡ (λ n. end_at (ends_of items) (slice_get channels n))
-next-given items channels others end rest first behind h = fun_ext go
-  where
-    shifted : (cs : List ℕ) (n : ℕ) → end_at (ends_of items) (slice_get (drop 1 cs) n) ≡ end_at (ends_of items) (slice_get cs (suc n))
-    shifted [] n = refl
-    shifted (c ∷ cs) n = refl
-
-    go : (n : ℕ) → ends_of (end ∷ rest) n ≡ end_at (ends_of items) (slice_get channels n)
-    go zero = first
-    go (suc n) = ap (λ (f : ℕ → Option ℕ). f n) h ∙ ap (λ (cs : List ℕ). end_at (ends_of items) (slice_get cs n)) behind ∙ shifted channels n
