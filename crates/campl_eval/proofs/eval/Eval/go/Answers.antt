@@ -1,5 +1,4 @@
-use Rattle.std.proofs.Common.{◌≡◌, ◌+◌, ◌<◌, sym, ◌∙◌, arith, true, false, Bool, List, ap, refl, Result, Ok, Err}
-use Rattle.std.specs.Prelude.{IfOk}
+use Rattle.std.proofs.Common.{◌≡◌, ◌+◌, ◌<◌, sym, ◌∙◌, arith, true, false, Bool, List, ap, refl}
 use Rattle.campl_code.specs.Frames.{Frame}
 use Rattle.campl_code.specs.Machine.{Next, step, Enters}
 use Rattle.campl_program.proofs.Onward.{onward-forward}
@@ -57,7 +56,6 @@ returns-in-Faulty c = faulty (code_of c.args.program.now) (seen c.args.self.now.
 
 pub left-init : goal.left-init
 left-init c = record { room = refl; kept = same-first (code_of c.args.program.now) (seen c.args.self.now.machine.frame) (seens c.args.self.now.machine.callers) c.args.calls }
-
 
 pub returns-in-Gives : goal.returns-in-Gives
 returns-in-Gives c = gives-all (code_of c.args.program.now) (seen c.args.self.now.machine.frame) (seens c.args.self.now.machine.callers) c.args.calls (seen c.leap.new.self) (seens c.left.self.machine.callers) c.left.left (kept (code_of c.args.program.now) (seens c.left.self.machine.callers) (seen c.args.self.now.machine.frame) (seens c.args.self.now.machine.callers) c.args.calls c.left.left (seen c.left.self.machine.frame) (seen c.leap.new.self) c.in_ok-leap.ensures c.left.invariant.kept)
