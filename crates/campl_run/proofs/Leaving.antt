@@ -46,7 +46,7 @@ runs-so (l.Serves x service) e = absurd (cc e)
 runs-not : (life : Life) (h : Held) → is_running life ≡ false → life_of life ≡ c.Runs h → ⊥
 runs-not l.Ended h e is = let f : c.Ended ≡ c.Runs h = is in cc f
 runs-not (l.Runs r) h e is = cc e
-runs-not (l.Serves x service) h e is = let f : c.Serves x service.serving ≡ c.Runs h = is in cc f
+runs-not (l.Serves x service) h e is = let f : c.Serves x service.value.serving ≡ c.Runs h = is in cc f
 
 break-kept : (k : Kept) → keeps_break k ≡ true → view_kept k ≡ kept.Broken
 break-kept (K.Values at variables values) e = absurd (cc e)
@@ -69,7 +69,7 @@ broke-not (l.Runs r) h e is broke =
     let f : c.Runs (held_of r) ≡ c.Runs h = is in
     let same : held_of r ≡ h = cc f in
     no-break-kept r.kept e (ap (λ (h : Held). h.kept) same ∙ broke)
-broke-not (l.Serves x service) h e is broke = let f : c.Serves x service.serving ≡ c.Runs h = is in cc f
+broke-not (l.Serves x service) h e is broke = let f : c.Serves x service.value.serving ≡ c.Runs h = is in cc f
 
 -- The parts
 
