@@ -23,6 +23,7 @@ use Rattle.campl_run.specs.declared.ended.Ended.{Ended}
 use Rattle.campl_run.specs.declared.ended.Ended.TheVariants as v
 use Rattle.campl_run.specs.Runs.{ending_of}
 use Rattle.campl_pipeline.specs.Source.{generated_source}
+use Rattle.campl_cli.specs.declared.running.TheConstants.{STEPS_BESIDE, STEPS_OF_A_STAGE}
 use Rattle.campl_cli.specs.declared.report.Report.{Report}
 use Rattle.campl_cli.specs.Refusals.{Files, HasScript, HasText}
 use Rattle.campl_cli.specs.Source.{IsAcceptedAs, heading_of}
@@ -92,7 +93,7 @@ RunsFile files file script budget report output = (text : List ℕ) × HasText f
 
 -- the budget of a pipeline of so many stages
 abbrev pub generated_budget : (stages : ℕ) → ℕ
-generated_budget stages = 60 * stages + 200
+generated_budget stages = STEPS_OF_A_STAGE * stages + STEPS_BESIDE
 
 -- what is printed before its run
 abbrev pub generated_line : (stages : ℕ) → List ℕ

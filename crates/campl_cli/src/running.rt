@@ -26,6 +26,12 @@ use campl_service::Scripts;
 use campl_text::{Shelf, Text};
 use std::alloc::{AllocError, Global};
 
+/// How many steps a generated pipeline may make for each stage. It finishes within 58 and some 95 more in all.
+const STEPS_OF_A_STAGE: u64 = 60;
+
+/// How many more it may make.
+const STEPS_BESIDE: u64 = 200;
+
 /// Runs the source of a file, with the script of another where one is named, for at most so many steps.
 ///
 /// # Errors
@@ -126,7 +132,8 @@ pub fn run_generated(alloc: Global, stages: u32) -> Result<Performance, Refusal>
         Ok(text) => text,
         Err(_) => return Err(Refusal::OutOfMemory),
     };
-    let performance = match run_alone(alloc, text, 60 * u64::from(stages) + 200) {
+    let budget = STEPS_OF_A_STAGE * u64::from(stages) + STEPS_BESIDE;
+    let performance = match run_alone(alloc, text, budget) {
         Ok(performance) => performance,
         Err(refusal) => return Err(refusal),
     };
