@@ -2,7 +2,7 @@
 //!
 //! - `part` has processes, `ends` the ends that they hold, and `inbox` the ends of channels with the messages at them.
 //! - `going` and `wanting` find what a process or service does next: [`ProcPart::want`] reads its part alone and takes no memory.
-//!   `races`, `rows` and `frames` belong to it; `want` and `place` have the data for it.
+//!   `races` and `rows` belong to it; `want` and `place` have the data for it.
 //! - `plan` and `look` make ready on copies what a step needs, so that nothing that comes later can fail.
 //! - `going` and `serving` then do to a process's part what the step does, `inbox` to an end; `people` and `wires` do the same at a
 //!   place of the tables of processes and of ends, which `tables` reads.
@@ -11,7 +11,6 @@
 
 mod ends;
 mod entry;
-mod frames;
 mod going;
 mod inbox;
 mod journal;
@@ -30,7 +29,6 @@ mod wires;
 
 pub use ends::Ends;
 pub use entry::{Entry, Kind};
-pub use frames::process_entry;
 pub use inbox::EndPart;
 pub use journal::Journal;
 pub use part::{Drawn, Life, ProcPart, Running};

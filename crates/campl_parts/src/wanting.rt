@@ -14,7 +14,6 @@ ghost use Rattle.campl_parts.specs.Views.{drawn_of, held_of};
 ghost use Rattle.campl_parts.specs.Wanted.{all_there, or_none, block_of, done_of, row_vars, start_of, want_of};
 
 use crate::entry::Kind;
-use crate::frames::process_entry;
 use crate::part::{Drawn, Running};
 use crate::place::Place;
 use crate::want::{Channel, Deed, Look, Sent, Want};
@@ -345,7 +344,7 @@ impl<'a> Ready<'a> {
     fn go(&self, process: u32, channels: &'a [u32]) -> Want<'a>
         ensures { want_of result ≡ done_of self.now (i.Go process channels.now) }
     {
-        let Some((parameters, size)) = process_entry(self.program, process) else {
+        let Some((parameters, size)) = self.program.process_entry(process) else {
             return Want::Rests;
         };
         let functions = self.program.raw().functions.as_slice();

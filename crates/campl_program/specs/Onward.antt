@@ -1,4 +1,4 @@
--- Code whose jumps lead onward, and the sizes of its functions' frames.
+-- Code whose jumps lead onward, and the sizes of its frames.
 use Rattle.std.specs.Prelude.{ℕ, ◌+◌, Bool, true, ◌&&◌, List, [], ◌∷◌, map, nat_lt}
 use Rattle.campl_code.specs.Instructions.{Instr, Block, Code}
 use Rattle.campl_code.specs.Instructions as i
@@ -25,6 +25,6 @@ abbrev pub blocks_onward : List Block → Bool
 blocks_onward [] = true
 blocks_onward (b ∷ bs) = all_onward 0 b.code && blocks_onward bs
 
--- how many variables the frame of each function has
-abbrev pub sizes_of : Code → List ℕ
-sizes_of code = map (frame_size code.decisions) code.functions
+-- how many variables the frame of each of these blocks has
+abbrev pub sizes_of : Code → List Block → List ℕ
+sizes_of code bs = map (frame_size code.decisions) bs

@@ -1,4 +1,4 @@
-//! Code that can be run: its jumps lead onward, and it is known how many variables the frame of each function has.
+//! Code that can be run: its jumps lead onward, and it is known how many variables the frame of each function and process has.
 //!
 //! [`Program::new`] finds the sizes of the frames, and refuses code with a jump that leads back: of such code an evaluation could
 //! go on for ever without a call. [`Program::assemble`] takes code of which that is known, as of the code of a source.

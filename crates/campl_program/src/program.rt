@@ -15,13 +15,15 @@ use campl_instructions::{Block, Instr, RawCode};
 use sqlite_items::{Items, at};
 use std::alloc::{AllocError, Global};
 
-/// Code each jump of which leads onward, with the sizes of its functions' frames.
+/// Code each jump of which leads onward, with the sizes of the frames of its functions and processes.
 #[derive(Drop)]
 pub struct Program {
     raw: RawCode,
     sizes: Items<usize>,
+    process_sizes: Items<usize>,
     ghost onward: { blocks_onward (blocks (view_code raw)) ≡ true },
-    ghost sized: { sizes ≡ sizes_of (view_code raw) },
+    ghost sized: { sizes ≡ sizes_of (view_code raw) (view_code raw).functions },
+    ghost processes_sized: { process_sizes ≡ sizes_of (view_code raw) (view_code raw).processes },
 }
 
 /// Why code is no program.
@@ -38,13 +40,13 @@ impl Program {
     pub fn new(alloc: Global, raw: RawCode) -> Result<Program, ProgramFault>
         ensures { MatchResult result (λ program. program.raw ≡ raw) (Tells (blocks_onward (blocks (view_code raw)))) }
     {
-        let Ok(sizes) = frame_sizes(alloc, &raw) else {
-            return Err(ProgramFault::OutOfMemory);
-        };
         if !leads_onward(&raw) {
             return Err(ProgramFault::LeadsBack);
         }
-        Ok(Program { raw, sizes })
+        match Program::sized(alloc, raw) {
+            Err(_) => Err(ProgramFault::OutOfMemory),
+            Ok(program) => Ok(program),
+        }
     }
 
     /// The same of code that is known to jump onward alone. An error means that memory is out, and drops the code.
@@ -52,10 +54,25 @@ impl Program {
         requires { IsForward (view_code raw) }
         ensures { IfOk result (λ program. program.raw ≡ raw) }
     {
-        match frame_sizes(alloc, &raw) {
-            Err(error) => Err(error),
-            Ok(sizes) => Ok(Program { raw, sizes }),
-        }
+        Program::sized(alloc, raw)
+    }
+
+    // Code that jumps onward alone, with its sizes. An error means that memory is out.
+    fn sized(alloc: Global, raw: RawCode) -> Result<Program, AllocError>
+        requires { blocks_onward (blocks (view_code raw)) ≡ true }
+        ensures { IfOk result (λ program. program.raw ≡ raw) }
+    {
+        let Ok(sizes) = frame_sizes(alloc, &raw, raw.functions.as_slice()) else {
+            return Err(AllocError);
+        };
+        let Ok(process_sizes) = frame_sizes(alloc, &raw, raw.processes.as_slice()) else {
+            return Err(AllocError);
+        };
+        Ok(Program {
+            raw,
+            sizes,
+            process_sizes,
+        })
     }
 
     /// The blocks and decisions.
@@ -75,6 +92,20 @@ impl Program {
             return None;
         };
         let Some(size) = at(self.sizes.as_slice(), n as usize) else {
+            return None;
+        };
+        Some((block.variables, *size))
+    }
+
+    /// The number of parameters of the process with this number, and how many variables its frame has; None where there is no
+    /// such process.
+    pub fn process_entry(&self, n: u32) -> Option<(u32, usize)>
+        ensures { result ≡ option_map (λ b. (b.variables, frame_size (view_code self.now.raw).decisions b)) (slice_get (view_code self.now.raw).processes n) }
+    {
+        let Some(block) = self.raw.process(n) else {
+            return None;
+        };
+        let Some(size) = at(self.process_sizes.as_slice(), n as usize) else {
             return None;
         };
         Some((block.variables, *size))

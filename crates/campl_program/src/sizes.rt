@@ -9,12 +9,16 @@ use campl_instructions::{Block, Decision, Instr, RawCode};
 use sqlite_items::Items;
 use std::alloc::{AllocError, Global};
 
-/// The size of each function's frame. An error means that memory is out.
-pub(crate) fn frame_sizes(alloc: Global, code: &RawCode) -> Result<Items<usize>, AllocError>
-    ensures { IfOk result (λ sizes. sizes ≡ sizes_of (view_code code.now)) }
+/// The size of the frame of each of these blocks. An error means that memory is out.
+pub(crate) fn frame_sizes(
+    alloc: Global,
+    code: &RawCode,
+    blocks: &[Block],
+) -> Result<Items<usize>, AllocError>
+    ensures { IfOk result (λ sizes. sizes ≡ sizes_of (view_code code.now) (map view_block blocks.now)) }
 {
     let mut sizes = Items::new(alloc);
-    for block in code.functions.as_slice() {
+    for block in blocks {
         sizes.push(frame_size(code, block))?;
     }
     Ok(sizes)

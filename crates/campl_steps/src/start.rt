@@ -13,7 +13,7 @@ ghost use Rattle.campl_steps.specs.Begins.{IsFirstLife, IsStart, attending, chan
 
 use crate::config::Config;
 use campl_operands::Variables;
-use campl_parts::{Begun, EndPart, Ends, Life, ProcPart, channel, process_entry};
+use campl_parts::{Begun, EndPart, Ends, Life, ProcPart, channel};
 use campl_program::Program;
 use campl_service::Service;
 use std::alloc::{AllocError, Global};
@@ -91,7 +91,7 @@ fn block_of(program: &Program, number: u32) -> usize
 fn missing(program: &Program, number: u32) -> usize
     ensures { (b : Block) → slice_get (code_of program.now).processes number ≡ Some b → result ≡ frame_size (code_of program.now).decisions b - b.variables }
 {
-    match process_entry(program, number) {
+    match program.process_entry(number) {
         None => 0,
         Some((parameters, size)) => size.saturating_sub(parameters as usize),
     }
