@@ -1,36 +1,19 @@
--- At a command of variables and literals a run ends after them, with their values.
-use Rattle.std.proofs.Common.{◌≡◌, ◌∙◌, ap, refl, sym, subst, append_assoc, arith, ℕ, zero, suc, ◌+◌, Bool, true, false, if◌then◌else◌, List, [], ◌∷◌, ◌++◌, drop, take, map, reverse, Option, Some, None, option_map, slice_get}
-use mathlib.Core.List.{reverse-cons, append-nil}
-use Rattle.campl_value.specs.Tree.{Tree, Int, Char, Truth, Nil}
-use Rattle.campl_code.specs.Decisions.{with_first}
+-- At a command whose expressions make one value after another a run ends after them, with their values.
+use Rattle.std.proofs.Common.{◌≡◌, ◌∙◌, ap, refl, sym, subst, arith, ℕ, zero, suc, ◌+◌, Bool, true, false, if◌then◌else◌, List, [], ◌∷◌, drop, take, map, reverse, Option, Some, None, option_map, slice_get}
+use Rattle.campl_value.specs.Tree.{Tree}
 use Rattle.campl_code.specs.Instructions.{Instr, Block, Code, blocks}
 use Rattle.campl_code.specs.Instructions as i
 use Rattle.campl_code.specs.Frames.{Frame, frame_at}
-use Rattle.campl_code.specs.Machine.{Next, Goes, Gives, act, code_at, does, fetch, is_command}
+use Rattle.campl_code.specs.Machine.{Goes, Gives, act, code_at, does, fetch, is_command, popped}
 use Rattle.campl_code.specs.Runs.{Gave, IsOver, goes_on, run}
 use Rattle.campl_code_bodies.specs.Kept.{Values, kept_of}
 use Rattle.campl_instructions.specs.View.{view_instr}
 use Rattle.campl_instructions.specs.declared.instr.Instr as r
+use Rattle.campl_operands.specs.Effects.{After, Leaves, Stops, made}
+use Rattle.campl_eval.specs.Flow.{goes}
+use Rattle.campl_eval.proofs.Making.{goes-built, goes-operated, goes-pushed, goes-two}
 use Rattle.campl_kept.specs.Keeps.{Keeps}
-use Rattle.campl_kept.specs.Plain.{all_plain, code_in, is_plain, plain, reach}
-
--- what is there already, in front of what comes
-abbrev pub behind : List Tree → Option (List Tree) → Option (List Tree)
-behind copies None = None
-behind copies (Some ts) = Some (copies ++ ts)
-
-pub behind-nothing : (o : Option (List Tree)) → behind [] o ≡ o
-behind-nothing None = refl
-behind-nothing (Some ts) = refl
-
-pub behind-more : (copies : List Tree) (t : Tree) (o : Option (List Tree)) → behind (copies ++ t ∷ []) o ≡ behind copies (with_first (Some t) o)
-behind-more copies t None = refl
-behind-more copies t (Some ts) = ap Some (append_assoc copies (t ∷ []) ts)
-
-pub behind-end : (copies : List Tree) → behind copies (Some []) ≡ Some copies
-behind-end copies = ap Some (append-nil copies)
-
-pub ruleset copying = (behind-nothing, behind-more, behind-end)
+use Rattle.campl_kept.specs.Straight.{all_made, code_in, is_straight, left, reach}
 
 pub map-drop : (n : ℕ) (code : List r.Instr) → map view_instr (drop n code) ≡ drop n (map view_instr code)
 map-drop zero code = refl
@@ -68,17 +51,19 @@ commanded code (i.Race l) f h = refl
 commanded code (i.Go p l) f h = refl
 commanded code x f h = absurd (cc h)
 
-next-of : Frame → Tree → Next
-next-of f v = Goes (record f { at = f.at + 1; stack = v ∷ f.stack }) []
-
-pushed : (code : Code) (x : Instr) (f : Frame) (v : Tree) → plain f.vars x ≡ Some v → act code x f [] ≡ next-of f v
-unfolding next-of
-pushed code (i.Int n) f v e = let s : Int n ≡ v = cc e in ap (next-of f) s
-pushed code (i.Char n) f v e = let s : Char n ≡ v = cc e in ap (next-of f) s
-pushed code (i.Truth n) f v e = let s : Truth n ≡ v = cc e in ap (next-of f) s
-pushed code i.Nil f v e = let s : Nil ≡ v = cc e in ap (next-of f) s
-pushed code (i.Load n) f v e = rw e refl
-pushed code x f v e = absurd (cc e)
+-- such an instruction does to the frame what it makes of the operands
+straight : (code : Code) (x : Instr) (f : Frame) → is_straight x ≡ true → act code x f [] ≡ goes f [] (made x f.vars f.stack)
+straight code (i.Int n) f h = refl
+straight code (i.Char c) f h = refl
+straight code (i.Truth b) f h = refl
+straight code i.Nil f h = refl
+straight code (i.Text text) f h = sym (goes-pushed f [] f.stack _)
+straight code (i.Load v) f h = sym (goes-pushed f [] f.stack _)
+straight code i.Cons f h = sym (goes-two f [] f.stack _)
+straight code i.Pair f h = sym (goes-two f [] f.stack _)
+straight code (i.Build c n) f h = sym (goes-built f [] c (popped n [] f.stack))
+straight code (i.Op op) f h = sym (goes-operated f [] f.stack op)
+straight code x f h = absurd (cc h)
 
 -- The run
 
@@ -86,11 +71,9 @@ mapped : (o : Option ℕ) (n : ℕ) → option_map suc o ≡ Some n → (m : ℕ
 mapped None n e = absurd (cc e)
 mapped (Some m) n e = (m, refl, cc e)
 
-parts : (first : Option Tree) (later : Option (List Tree)) (vs : List Tree) → with_first first later ≡ Some vs
-    → (v : Tree) × (ws : List Tree) × (first ≡ Some v) × (later ≡ Some ws) × (v ∷ ws ≡ vs)
-parts (Some v) (Some ws) vs e = (v, ws, refl, refl, cc e)
-parts (Some v) None vs e = absurd (cc e)
-parts None later vs e = absurd (cc e)
+leaves : (after : After) (f : List Tree → Option (List Tree)) (vs : List Tree) → left after f ≡ Some vs → (s : List Tree) × (after ≡ Leaves s) × (f s ≡ Some vs)
+leaves (Leaves s) f vs e = (s, refl, e)
+leaves (Stops b) f vs e = absurd (cc e)
 
 found : (o : Option Block) (at : ℕ) → slice_get (code_in o) at ≡ code_at o at
 found None at = refl
@@ -110,57 +93,49 @@ module _ (code : Code) (block : ℕ) (vars : List Tree) where
   all = code_in (slice_get (blocks code) block)
 
   abbrev Ends : List Instr → Type 0
-  Ends is = (at n : ℕ) (stack vs : List Tree) → is ≡ drop at all → reach is ≡ Some n → all_plain vars (take n is) ≡ Some vs
-      → run code (suc n) (frame block at vars stack) [] 0 ≡ Gave (at + n) vars (reverse stack ++ vs) 0
+  Ends is = (at n : ℕ) (stack vs : List Tree) → is ≡ drop at all → reach is ≡ Some n → all_made vars stack (take n is) ≡ Some vs
+      → run code (suc n) (frame block at vars stack) [] 0 ≡ Gave (at + n) vars (reverse vs) 0
 
-  at-command : (x : Instr) (at n : ℕ) (is : List Instr) (stack vs : List Tree) → fetch code (frame block at vars stack) ≡ Some x → is_command x ≡ true → 0 ≡ n → all_plain vars (take n is) ≡ Some vs
-      → run code (suc n) (frame block at vars stack) [] 0 ≡ Gave (at + n) vars (reverse stack ++ vs) 0
+  at-command : (x : Instr) (at n : ℕ) (is : List Instr) (stack vs : List Tree) → fetch code (frame block at vars stack) ≡ Some x → is_command x ≡ true → 0 ≡ n → all_made vars stack (take n is) ≡ Some vs
+      → run code (suc n) (frame block at vars stack) [] 0 ≡ Gave (at + n) vars (reverse vs) 0
   at-command x at zero is stack vs there h z p =
       let f = frame block at vars stack in
       let next = ap (λ o. does code o f []) there ∙ commanded code x f h in
-      let none : [] ≡ vs = cc p in
-      let same : at ≡ at + 0 = omega arith in
-      ap (λ n. goes_on n f [] (run code 0) 0) next ∙ ap (λ n. Gave n vars (reverse stack) 0) same ∙ ap (λ l. Gave (at + 0) vars l 0) (sym (append-nil (reverse stack)) ∙ ap (λ l. reverse stack ++ l) none)
+      let same : stack ≡ vs = cc p in
+      let place : at ≡ at + 0 = omega arith in
+      ap (λ n. goes_on n f [] (run code 0) 0) next ∙ (λ i. Gave (place i) vars (reverse (same i)) 0)
   at-command x at (suc n) is stack vs there h z p = absurd (cc z)
 
-  at-plain : (x : Instr) (at m : ℕ) (stack ws : List Tree) (v : Tree) → fetch code (frame block at vars stack) ≡ Some x → plain vars x ≡ Some v
-      → run code (suc m) (frame block (at + 1) vars (v ∷ stack)) [] 0 ≡ Gave (at + 1 + m) vars (reverse (v ∷ stack) ++ ws) 0
-      → run code (suc (suc m)) (frame block at vars stack) [] 0 ≡ Gave (at + suc m) vars (reverse stack ++ v ∷ ws) 0
-  unfolding next-of
-  at-plain x at m stack ws v there is later =
+  at-straight : (x : Instr) (at m : ℕ) (stack s vs : List Tree) → fetch code (frame block at vars stack) ≡ Some x → is_straight x ≡ true → made x vars stack ≡ Leaves s
+      → run code (suc m) (frame block (at + 1) vars s) [] 0 ≡ Gave (at + 1 + m) vars (reverse vs) 0
+      → run code (suc (suc m)) (frame block at vars stack) [] 0 ≡ Gave (at + suc m) vars (reverse vs) 0
+  at-straight x at m stack s vs there is makes later =
       let f = frame block at vars stack in
-      let next = ap (λ o. does code o f []) there ∙ pushed code x f v is in
+      let next = ap (λ o. does code o f []) there ∙ (straight code x f is ∙ ap (goes f []) makes) in
       let place : at + 1 + m ≡ at + suc m = omega arith in
-      let values : reverse (v ∷ stack) ++ ws ≡ reverse stack ++ v ∷ ws = ap (λ l. l ++ ws) (reverse-cons v stack) ∙ append_assoc (reverse stack) (v ∷ []) ws in
-      ap (λ n. goes_on n f [] (run code (suc m)) 0) next ∙ later ∙ ap (λ n. Gave n vars (reverse (v ∷ stack) ++ ws) 0) place ∙ ap (λ l. Gave (at + suc m) vars l 0) values
+      ap (λ n. goes_on n f [] (run code (suc m)) 0) next ∙ later ∙ ap (λ n. Gave n vars (reverse vs) 0) place
 
-  one-more : (x : Instr) (is : List Instr) → Ends is → (c p : Bool) → is_command x ≡ c → is_plain x ≡ p → (at n : ℕ) (stack vs : List Tree) → x ∷ is ≡ drop at all
-      → (if c then Some 0 else (if p then option_map suc (reach is) else None)) ≡ Some n → all_plain vars (take n (x ∷ is)) ≡ Some vs
-      → run code (suc n) (frame block at vars stack) [] 0 ≡ Gave (at + n) vars (reverse stack ++ vs) 0
+  one-more : (x : Instr) (is : List Instr) → Ends is → (c p : Bool) → is_command x ≡ c → is_straight x ≡ p → (at n : ℕ) (stack vs : List Tree) → x ∷ is ≡ drop at all
+      → (if c then Some 0 else (if p then option_map suc (reach is) else None)) ≡ Some n → all_made vars stack (take n (x ∷ is)) ≡ Some vs
+      → run code (suc n) (frame block at vars stack) [] 0 ≡ Gave (at + n) vars (reverse vs) 0
   one-more x is later true p commands plains at n stack vs here r values =
       let there = here-is all at x is here in
       at-command x at n (x ∷ is) stack vs (sym (found (slice_get (blocks code) block) at) ∙ there.0) commands (cc r) values
   one-more x is later false true commands plains at n stack vs here r values =
       let (m, reaches, long) = mapped (reach is) n r in
       let there = here-is all at x is here in
-      let (v, ws, first, rest, whole) = parts (plain vars x) (all_plain vars (take m is)) vs (subst (λ (n : ℕ). all_plain vars (take n (x ∷ is)) ≡ Some vs) (sym long) values) in
-      let ends = at-plain x at m stack ws v (sym (found (slice_get (blocks code) block) at) ∙ there.0) first (later (at + 1) m (v ∷ stack) ws there.1 reaches rest) in
-      subst (λ (n : ℕ). run code (suc n) (frame block at vars stack) [] 0 ≡ Gave (at + n) vars (reverse stack ++ vs) 0) long (ends ∙ ap (λ l. Gave (at + suc m) vars (reverse stack ++ l) 0) whole)
+      let (s, makes, rest) = leaves (made x vars stack) (λ stack. all_made vars stack (take m is)) vs (subst (λ (n : ℕ). all_made vars stack (take n (x ∷ is)) ≡ Some vs) (sym long) values) in
+      let ends = at-straight x at m stack s vs (sym (found (slice_get (blocks code) block) at) ∙ there.0) plains makes (later (at + 1) m s vs there.1 reaches rest) in
+      subst (λ (n : ℕ). run code (suc n) (frame block at vars stack) [] 0 ≡ Gave (at + n) vars (reverse vs) 0) long ends
   one-more x is later false false commands plains at n stack vs here r values = absurd (cc r)
 
   ends : (is : List Instr) → Ends is
   ends [] at n stack vs here r p = absurd (cc r)
-  ends (x ∷ is) at n stack vs here r p = one-more x is (ends is) (is_command x) (is_plain x) refl refl at n stack vs here r p
+  ends (x ∷ is) at n stack vs here r p = one-more x is (ends is) (is_command x) (is_straight x) refl refl at n stack vs here r p
 
   -- what is kept there
-  pub plainly : (xs : List r.Instr) (at n to : ℕ) (vs : List Tree) → map view_instr xs ≡ drop at all → Some n ≡ reach (map view_instr xs) → Some vs ≡ all_plain vars (map view_instr (take n xs)) → to ≡ at + n
-      → Keeps code (frame_at block at vars) [] 0 (Values to vars vs)
-  plainly xs at n to vs here r p place =
-      let run-is = ends (map view_instr xs) at n [] vs here (sym r) (ap (all_plain vars) (sym (map-take n xs)) ∙ sym p) in
-      (suc n, subst IsOver (sym run-is) tt, ap (λ m. Values m vars vs) place ∙ ap kept_of (sym run-is))
-
-  -- without any
-  pub at-once : (xs : List r.Instr) (at n : ℕ) (vs : List Tree) → map view_instr xs ≡ drop at all → Some n ≡ reach (map view_instr xs) → n ≡ 0 → vs ≡ []
-      → Keeps code (frame_at block at vars) [] 0 (Values at vars vs)
-  at-once xs at zero vs here r z none = plainly xs at zero at vs here r (ap Some none) (omega arith)
-  at-once xs at (suc n) vs here r z none = absurd (cc z)
+  pub straightly : (xs : List r.Instr) (at n to : ℕ) (vs : List Tree) → map view_instr xs ≡ drop at all → Some n ≡ reach (map view_instr xs) → Some vs ≡ all_made vars [] (map view_instr (take n xs)) → to ≡ at + n
+      → Keeps code (frame_at block at vars) [] 0 (Values to vars (reverse vs))
+  straightly xs at n to vs here r p place =
+      let run-is = ends (map view_instr xs) at n [] vs here (sym r) (ap (all_made vars []) (sym (map-take n xs)) ∙ sym p) in
+      (suc n, subst IsOver (sym run-is) tt, ap (λ m. Values m vars (reverse vs)) place ∙ ap kept_of (sym run-is))

@@ -1,3 +1,3 @@
 pub mod View
 pub mod Keeps
-pub mod Plain
+pub mod Straight

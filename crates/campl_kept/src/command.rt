@@ -1,16 +1,15 @@
-//! Commands whose expressions are variables and literals: their values are made without an evaluation.
-ghost use Rattle.std.specs.Prelude.{◌≡◌, ◌≤◌, IfOk, IfSome, drop, length, map, option_map, slice_get};
+//! Commands whose expressions make one value after another: their values are made without an evaluation.
+ghost use Rattle.std.specs.Prelude.{◌≡◌, ◌≤◌, [], IfOk, IfSome, drop, length, map, option_map, slice_get};
 ghost use Rattle.std.specs.Option.{option_copied};
 ghost use Rattle.campl_code.specs.Instructions.{blocks};
 ghost use Rattle.campl_code.specs.Machine as m;
 ghost use Rattle.campl_eval.specs.View.{code_of};
 ghost use Rattle.campl_instructions.specs.View.{view_block, view_instr};
-ghost use Rattle.campl_kept.specs.Plain as p;
+ghost use Rattle.campl_kept.specs.Straight as s;
 
 use campl_instructions::{Block, Instr};
-use campl_operands::Variables;
+use campl_operands::{Effect, Operands, Variables};
 use campl_program::Program;
-use campl_value::Value;
 use sqlite_items::at;
 use std::alloc::{AllocError, Global};
 
@@ -18,7 +17,7 @@ use std::alloc::{AllocError, Global};
 #[inline]
 #[tactic(auto, using(crate::proofs::Commands::places))]
 pub(crate) fn code_from(program: &Program, block: usize, at: usize) -> &[Instr]
-    ensures { map view_instr result.now ≡ drop at (p.code_in (slice_get (blocks (code_of program.now)) block)) }
+    ensures { map view_instr result.now ≡ drop at (s.code_in (slice_get (blocks (code_of program.now)) block)) }
 {
     match block_at(program, block) {
         None => &[],
@@ -48,76 +47,51 @@ fn from(code: &[Instr], at: usize) -> &[Instr]
     &code[at..]
 }
 
-/// How many instructions are before the command, where they are all variables and literals.
+/// How many instructions are before the command, where each of them makes a value.
 #[inline]
 pub(crate) fn reach(code: &[Instr]) -> Option<usize>
-    ensures value { result ≡ p.reach (map view_instr code.now) }
+    ensures value { result ≡ s.reach (map view_instr code.now) }
     ensures within { IfSome result (λ n. n ≤ length code.now) }
 {
     for (n, instr) in code.iter().enumerate() {
         if is_command(instr) {
             return Some(n);
         }
-        if !is_plain(instr) {
+        if !is_straight(instr) {
             return None;
         }
     }
     None
 }
 
-/// The values of variables and literals; None where one isn't there. An error means that memory is out.
-#[tactic(auto, using(crate::proofs::Commands::copying))]
-pub(crate) fn all_plain(
+/// The operands that these instructions leave; None where one breaks. An error means that memory is out.
+pub(crate) fn all_made(
     alloc: Global,
     code: &[Instr],
     variables: &Variables,
-) -> Result<Option<Vec<Value>>, AllocError>
-    ensures { IfOk result (λ values. option_map (λ v. v.items) values ≡ p.all_plain variables.now (map view_instr code.now)) }
+) -> Result<Option<Operands>, AllocError>
+    ensures { IfOk result (λ operands. operands ≡ s.all_made variables.now [] (map view_instr code.now)) }
 {
-    let mut values = Vec::new(alloc);
+    let mut operands = Operands::new(alloc);
     for instr in code {
-        match plain(variables, instr) {
-            Err(error) => return Err(error),
-            Ok(None) => return Ok(None),
-            Ok(Some(value)) => values.push(value)?,
+        match operands.make(alloc, variables, instr) {
+            Effect::Done => {}
+            Effect::TooDeep => return Ok(None),
+            Effect::Faulty => return Ok(None),
+            Effect::OutOfMemory => return Err(AllocError),
         }
     }
-    Ok(Some(values))
+    Ok(Some(operands))
 }
 
+// Whether it makes a value of the variables and of the operands.
 #[inline]
-fn plain(variables: &Variables, instr: &Instr) -> Result<Option<Value>, AllocError>
-    ensures { IfOk result (λ value. value ≡ p.plain variables.now (view_instr instr.now)) }
+fn is_straight(instr: &Instr) -> bool
+    ensures { result ≡ s.is_straight (view_instr instr.now) }
 {
     match instr {
-        Instr::Int(n) => Ok(Some(Value::int(*n))),
-        Instr::Char(c) => Ok(Some(Value::character(*c))),
-        Instr::Truth(b) => Ok(Some(Value::truth(*b))),
-        Instr::Nil => Ok(Some(Value::nil())),
-        Instr::Load(n) => load(variables, *n),
-        _ => Ok(None),
-    }
-}
-
-#[inline]
-fn load(variables: &Variables, n: u32) -> Result<Option<Value>, AllocError>
-    ensures { IfOk result (λ value. value ≡ slice_get variables.now n) }
-{
-    match variables.get(n) {
-        None => Ok(None),
-        Some(value) => match value.copy() {
-            Err(error) => Err(error),
-            Ok(value) => Ok(Some(value)),
-        },
-    }
-}
-
-#[inline]
-fn is_plain(instr: &Instr) -> bool
-    ensures { result ≡ p.is_plain (view_instr instr.now) }
-{
-    match instr {
-        Instr::Int(_) | Instr::Char(_) | Instr::Truth(_) | Instr::Nil | Instr::Load(_) => true,
+        Instr::Int(_) | Instr::Char(_) | Instr::Truth(_) | Instr::Nil | Instr::Text(_) => true,
+        Instr::Load(_) | Instr::Cons | Instr::Pair | Instr::Build(_, _) | Instr::Op(_) => true,
         _ => false,
     }
 }

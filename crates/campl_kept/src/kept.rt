@@ -1,13 +1,13 @@
 //! A process's evaluation, kept advanced.
-ghost use Rattle.std.specs.Prelude.{◌≡◌, [], true, false, IfOk, OnOk, OnErr};
+ghost use Rattle.std.specs.Prelude.{◌≡◌, [], true, false, IfOk, IfSome, OnOk, OnErr};
 ghost use Rattle.campl_code.specs.Frames.{frame_at};
 ghost use Rattle.campl_code_bodies.specs.Commands.{Cell};
-ghost use Rattle.campl_code_bodies.specs.Kept.{AtCall as at_call, IsKept, spent_more};
+ghost use Rattle.campl_code_bodies.specs.Kept.{AtCall as at_call, IsKept, Values, spent_more};
 ghost use Rattle.campl_eval.specs.View.{code_of, seen, seens};
 ghost use Rattle.campl_kept.specs.View.{view_kept, is_lost, came_to, IsValues};
 ghost use Rattle.campl_kept.specs.Keeps.{Keeps};
 
-use crate::command::{all_plain, code_from, reach};
+use crate::command::{all_made, code_from, reach};
 use campl_eval::{Eval, Frame, Machine, Turn};
 use campl_operands::{Variables, copies};
 use campl_program::Program;
@@ -47,6 +47,41 @@ impl Drop for Kept {
     }
 }
 
+/// A command whose expressions are evaluated: its place, and their values in their order.
+#[derive(Drop)]
+pub struct Reached {
+    pub at: usize,
+    pub values: Vec<Value>,
+}
+
+/// The command at this place of a block, where no jump, match or call is before it and nothing breaks. Functions are numbered
+/// first, then processes. An error means that memory is out.
+pub fn go_straight(
+    alloc: Global,
+    program: &Program,
+    block: usize,
+    at: usize,
+    variables: &Variables,
+) -> Result<Option<Reached>, AllocError>
+    ensures { IfOk result (λ r. IfSome r (λ r. Keeps (code_of program.now) (frame_at block at variables.now) [] 0 (Values r.at variables.now r.values.items))) }
+{
+    let code = code_from(program, block, at);
+    let Some(n) = reach(code) else {
+        return Ok(None);
+    };
+    let Some(to) = at.checked_add(n) else {
+        return Ok(None);
+    };
+    match all_made(alloc, &code[..n], variables) {
+        Err(error) => Err(error),
+        Ok(None) => Ok(None),
+        Ok(Some(mut operands)) => Ok(Some(Reached {
+            at: to,
+            values: operands.take_all(alloc),
+        })),
+    }
+}
+
 impl Kept {
     /// The evaluation of the command at this place of a block, with these variables, before any call. Functions are numbered
     /// first, then processes. An error means that memory is out, and drops the variables.
@@ -59,30 +94,16 @@ impl Kept {
     ) -> Result<Kept, AllocError>
         ensures { IfOk result (λ kept. Keeps (code_of program.now) (frame_at block at variables) [] 0 (view_kept kept)) }
     {
-        let code = code_from(program, block, at);
-        match reach(code) {
-            None => {}
-            Some(0) => {
+        match go_straight(alloc, program, block, at, &variables) {
+            Err(error) => return Err(error),
+            Ok(None) => {}
+            Ok(Some(Reached { at, values })) => {
                 return Ok(Kept::Values {
                     at,
                     variables,
-                    values: Vec::new(alloc),
+                    values,
                 });
             }
-            Some(n) => match all_plain(alloc, &code[..n], &variables) {
-                Err(error) => return Err(error),
-                Ok(None) => {}
-                Ok(Some(values)) => match at.checked_add(n) {
-                    None => {}
-                    Some(at) => {
-                        return Ok(Kept::Values {
-                            at,
-                            variables,
-                            values,
-                        });
-                    }
-                },
-            },
         }
         // Called at one place alone, it is compiled where it is called, which saves moves.
         evaluate(alloc, program, block, at, variables)

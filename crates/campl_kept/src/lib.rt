@@ -13,4 +13,4 @@
 mod command;
 mod kept;
 
-pub use kept::Kept;
+pub use kept::{Kept, Reached, go_straight};

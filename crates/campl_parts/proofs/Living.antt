@@ -4,14 +4,16 @@ use Rattle.std.proofs.Common.{ap, subst, sym}
 use Rattle.std.specs.declared.alloc.AllocError.{AllocError}
 use Rattle.campl_code.specs.Instructions.{Code}
 use Rattle.campl_code_bodies.specs.Kept.{Kept}
+use Rattle.campl_cells.specs.Parts as c
 use Rattle.campl_cells.specs.Parts.{Runs}
 use Rattle.campl_cells.specs.Wants.{Spends}
 use Rattle.campl_cells.specs.Steps.{IsLifeOf, KeptAfter}
 use Rattle.campl_parts.specs.declared.part.Life.{Life}
 use Rattle.campl_parts.specs.Ends.{ends_of}
+use Rattle.campl_parts.specs.Views.{life_of}
 
 -- what holds of a life holds of what is the same
-pub same_life : (r : Result Life AllocError) (x : Life) (P : Life → Type 0) → IfOk r (λ life. life ≡ x) → P x → IfOk r P
+pub same_life : (r : Result Life AllocError) (x : c.Life) (P : c.Life → Type 0) → IfOk r (λ life. life_of life ≡ x) → P x → IfOk r (λ life. P (life_of life))
 same_life (Ok life) x P e p = subst P (sym e) p
 same_life (Err error) x P e p = tt
 

@@ -42,7 +42,7 @@ held_of r = record { block = r.block; ends = ends_of r.ends; kept = view_kept r.
 
 abbrev pub life_of : Life → c.Life
 life_of l.Ended = c.Ended
-life_of (l.Runs r) = c.Runs (held_of r)
+life_of (l.Runs r) = c.Runs (held_of r.value)
 life_of (l.Serves e service) = c.Serves e service.value.serving
 
 abbrev pub proc_of : ProcPart → c.Proc

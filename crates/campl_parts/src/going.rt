@@ -20,7 +20,7 @@ impl ProcPart {
     {
         match &self.life {
             Life::Ended => Want::Rests,
-            Life::Runs(running) => running.get().want(program, drawn, branch),
+            Life::Runs(running) => running.as_ref().want(program, drawn, branch),
             Life::Serves(end, service) => serve(*end, service.as_ref()),
         }
     }

@@ -1,11 +1,11 @@
 //! Processes and services.
 ghost use Rattle.std.specs.Prelude.{◌≡◌, IfOk};
-ghost use Rattle.campl_parts.specs.declared.part.Life.TheVariants.{Runs};
+ghost use Rattle.campl_cells.specs.Parts.{Runs};
+ghost use Rattle.campl_parts.specs.Views.{held_of, life_of};
 
 use crate::ends::Ends;
 use campl_kept::Kept;
 use campl_service::Service;
-use sqlite_items::Boxed;
 use std::alloc::{AllocError, Global};
 
 /// A process that runs: its block, the ends that it holds, and how far the expressions of its next command are evaluated.
@@ -21,7 +21,7 @@ pub struct Running {
 pub enum Life {
     /// It is gone.
     Ended,
-    Runs(Boxed<Running>),
+    Runs(Box<Running>),
     /// A service, at its end.
     Serves(u32, Box<Service>),
 }
@@ -29,11 +29,11 @@ pub enum Life {
 impl Life {
     // A process that runs. An error means that memory is out.
     pub(crate) fn runs(alloc: Global, running: Running) -> Result<Life, AllocError>
-        ensures { IfOk result (λ life. life ≡ Runs running) }
+        ensures { IfOk result (λ life. life_of life ≡ Runs (held_of running)) }
     {
-        match Boxed::new(alloc, running) {
+        match Box::new(alloc, running) {
             Ok(running) => Ok(Life::Runs(running)),
-            Err(error) => Err(error),
+            Err(_) => Err(AllocError),
         }
     }
 }

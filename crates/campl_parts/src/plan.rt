@@ -276,7 +276,7 @@ fn called(
 }
 
 // The variables of a called process: the values, and so many more.
-fn called_variables(
+pub(crate) fn called_variables(
     alloc: Global,
     missing: usize,
     values: &[Value],

@@ -40,7 +40,7 @@ none-there f (q ∷ ps) e i p there = go (f q.life) refl (none-there f ps) e i t
 
 runs-so : (life : Life) → is_running life ≡ true → (h : Held) × (life_of life ≡ c.Runs h)
 runs-so l.Ended e = absurd (cc e)
-runs-so (l.Runs r) e = (held_of r, refl)
+runs-so (l.Runs r) e = (held_of r.value, refl)
 runs-so (l.Serves x service) e = absurd (cc e)
 
 runs-not : (life : Life) (h : Held) → is_running life ≡ false → life_of life ≡ c.Runs h → ⊥
@@ -60,15 +60,15 @@ no-break-kept K.Broken e is = cc e
 
 broke-so : (life : Life) → is_broken life ≡ true → (h : Held) × (life_of life ≡ c.Runs h) × (h.kept ≡ kept.Broken)
 broke-so l.Ended e = absurd (cc e)
-broke-so (l.Runs r) e = (held_of r, refl, break-kept r.kept e)
+broke-so (l.Runs r) e = (held_of r.value, refl, break-kept r.value.kept e)
 broke-so (l.Serves x service) e = absurd (cc e)
 
 broke-not : (life : Life) (h : Held) → is_broken life ≡ false → life_of life ≡ c.Runs h → h.kept ≡ kept.Broken → ⊥
 broke-not l.Ended h e is broke = let f : c.Ended ≡ c.Runs h = is in cc f
 broke-not (l.Runs r) h e is broke =
-    let f : c.Runs (held_of r) ≡ c.Runs h = is in
-    let same : held_of r ≡ h = cc f in
-    no-break-kept r.kept e (ap (λ (h : Held). h.kept) same ∙ broke)
+    let f : c.Runs (held_of r.value) ≡ c.Runs h = is in
+    let same : held_of r.value ≡ h = cc f in
+    no-break-kept r.value.kept e (ap (λ (h : Held). h.kept) same ∙ broke)
 broke-not (l.Serves x service) h e is broke = let f : c.Serves x service.value.serving ≡ c.Runs h = is in cc f
 
 -- The parts

@@ -21,7 +21,7 @@ keeps_break K.Broken = true
 -- it is a process that broke
 abbrev pub is_broken : Life → Bool
 is_broken l.Ended = false
-is_broken (l.Runs r) = keeps_break r.kept
+is_broken (l.Runs r) = keeps_break r.value.kept
 is_broken (l.Serves e service) = false
 
 -- the test holds of one of them

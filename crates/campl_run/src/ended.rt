@@ -86,7 +86,7 @@ fn is_broken(life: &Life) -> bool
 {
     match life {
         Life::Ended => false,
-        Life::Runs(running) => keeps_break(&running.get().kept),
+        Life::Runs(running) => keeps_break(&running.as_ref().kept),
         Life::Serves(_, _) => false,
     }
 }

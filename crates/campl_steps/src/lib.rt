@@ -14,6 +14,7 @@ mod apply;
 mod attend;
 mod config;
 mod entries;
+mod in_place;
 mod looks;
 mod made;
 mod numbers;

@@ -170,7 +170,7 @@ fn stopped(life: &Life) -> Option<Next>
 {
     match life {
         Life::Ended => Some(Next::Ended),
-        Life::Runs(running) => stopped_kept(&running.get().kept),
+        Life::Runs(running) => stopped_kept(&running.as_ref().kept),
         Life::Serves(_, service) => stopped_serving(service.as_ref().wants()),
     }
 }

@@ -11,6 +11,7 @@ ghost use Rattle.campl_steps.specs.Stepping.{ComesTo, is_step, made_of};
 
 use crate::config::Config;
 use crate::entries::{at_end, of_link, of_move};
+use crate::in_place::Tried;
 use crate::made::{Changed, Made};
 use crate::plan::Ready;
 use campl_parts::{Drawn, Entry, Kind};
@@ -39,6 +40,14 @@ impl Config {
     {
         if self.processes.len() <= number as usize {
             return Ok(None);
+        }
+        if let Some(instr) = self.command(program, number) {
+            match self.step_in_place(alloc, program, number, instr) {
+                Tried::Made(made) => return Ok(Some(made)),
+                Tried::Still => return Ok(None),
+                Tried::OutOfMemory => return Err(AllocError),
+                Tried::Otherwise => {}
+            }
         }
         let Some(drawn) = self.drawn_for(number) else {
             return Err(AllocError);

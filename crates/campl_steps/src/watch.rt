@@ -158,7 +158,7 @@ fn targets(program: &Program, life: &Life) -> usize
 {
     match life {
         Life::Ended => 0,
-        Life::Runs(running) => targets_kept(program, running.get()),
+        Life::Runs(running) => targets_kept(program, running.as_ref()),
         Life::Serves(_, _) => 0,
     }
 }

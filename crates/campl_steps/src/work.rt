@@ -112,7 +112,7 @@ fn is_calling(life: &Life) -> bool
 {
     match life {
         Life::Ended => false,
-        Life::Runs(running) => is_call(&running.get().kept),
+        Life::Runs(running) => is_call(&running.as_ref().kept),
         Life::Serves(_, _) => false,
     }
 }

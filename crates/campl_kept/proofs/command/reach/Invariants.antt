@@ -1,6 +1,6 @@
 use Rattle.std.proofs.Common.{◌≡◌, ◌+◌, drop, map, option_map}
 use Rattle.campl_instructions.specs.View.{view_instr}
-use Rattle.campl_kept.specs.Plain.{reach}
+use Rattle.campl_kept.specs.Straight.{reach}
 use Rattle.campl_kept.proofs.command.reach.Given as goal
 
 abbrev pub invariant-loop-n : goal.invariant-loop-n
