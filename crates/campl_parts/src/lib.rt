@@ -33,7 +33,7 @@ pub use entry::{Entry, Kind};
 pub use inbox::EndPart;
 pub use journal::Journal;
 pub use part::{Drawn, Life, ProcPart, Running};
-pub use people::{bear, go_on};
+pub use people::{bear, go_on, reach, reach_with, turn_into};
 pub use place::{Begun, Place};
 pub use plan::Planned;
 pub use serving::suits;

@@ -159,12 +159,7 @@ impl<'a> Standing<'a> {
     }
 
     /// Its variables, of which this one is a copy of a value. An error means that memory is out.
-    pub fn with(
-        &self,
-        alloc: Global,
-        variable: u32,
-        value: &Value,
-    ) -> Result<Variables, AllocError>
+    pub fn with(&self, alloc: Global, variable: u32, value: &Value) -> Result<Variables, AllocError>
         ensures { IfOk result (λ variables. variables ≡ slice_set self.now.variables.now variable value.now) }
     {
         let value = match value.copy() {

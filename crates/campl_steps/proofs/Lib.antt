@@ -4,6 +4,7 @@ pub mod Arms
 pub mod Attending
 pub mod Called
 pub mod Drawing
+pub mod InPlace
 pub mod Making
 pub mod Seen
 pub mod Since

@@ -1,6 +1,7 @@
 pub mod Begins
 pub mod Configs
 pub mod Doing
+pub mod InPlace
 pub mod Looks
 pub mod Outlook
 pub mod Readiness

@@ -26,6 +26,23 @@ pub(crate) fn at_end(process: u32, kind: Kind, end: u32, message: Option<Message
     }
 }
 
+// A step at no end.
+pub(crate) fn at_none(process: u32, kind: Kind) -> Entry
+    ensures { entry_of result ≡ record { process = process; kind = kind_of kind; weight = 1; end = None; second = None; message = None; child = None; channel = None; channel2 = None } }
+{
+    Entry {
+        process,
+        kind,
+        weight: 1,
+        end: None,
+        second: None,
+        message: None,
+        child: None,
+        channel: None,
+        channel2: None,
+    }
+}
+
 // An identity of two ends.
 pub(crate) fn of_link(process: u32, end: u32, second: u32) -> Entry
     ensures { entry_of result ≡ record { process = process; kind = k.Link; weight = 1; end = Some end; second = Some second; message = None; child = None; channel = None; channel2 = None } }

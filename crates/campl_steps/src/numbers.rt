@@ -10,6 +10,9 @@ use campl_parts::Drawn;
 /// How many processes and services, and how many channels, there may be.
 const MOST_NUMBERS: usize = 0x7fff_fffe;
 
+/// How many steps a process or service may make.
+pub(crate) const MOST_STEPS: u64 = 1 << 62;
+
 impl Config {
     /// How many processes and services there are.
     pub fn len(&self) -> usize

@@ -13,13 +13,11 @@ use crate::config::Config;
 use crate::entries::{at_end, of_link, of_move};
 use crate::in_place::Tried;
 use crate::made::{Changed, Made};
+use crate::numbers::MOST_STEPS;
 use crate::plan::Ready;
 use campl_parts::{Drawn, Entry, Kind};
 use campl_program::Program;
 use std::alloc::{AllocError, Global};
-
-/// How many steps a process or service may make.
-const MOST_STEPS: u64 = 1 << 62;
 
 impl Config {
     /// One step of this process or service as this branch, if it has one.
@@ -38,16 +36,30 @@ impl Config {
         requires { Wired (parts self.old) }
         ensures { Stepped (code_of program.now) number branch self.old self.new result }
     {
+        match self.command(program, number) {
+            None => self.step_on_copies(alloc, program, number, branch),
+            Some(instr) => match self.step_in_place(alloc, program, number, instr) {
+                Tried::Made(made) => Ok(Some(made)),
+                Tried::Still => Ok(None),
+                Tried::OutOfMemory => Err(AllocError),
+                Tried::Otherwise => self.step_on_copies(alloc, program, number, branch),
+            },
+        }
+    }
+
+    // The same, made ready on copies.
+    fn step_on_copies(
+        &mut self,
+        alloc: Global,
+        program: &Program,
+        number: u32,
+        branch: u32,
+    ) -> Result<Option<Made>, AllocError>
+        requires { Wired (parts self.old) }
+        ensures { Stepped (code_of program.now) number branch self.old self.new result }
+    {
         if self.processes.len() <= number as usize {
             return Ok(None);
-        }
-        if let Some(instr) = self.command(program, number) {
-            match self.step_in_place(alloc, program, number, instr) {
-                Tried::Made(made) => return Ok(Some(made)),
-                Tried::Still => return Ok(None),
-                Tried::OutOfMemory => return Err(AllocError),
-                Tried::Otherwise => {}
-            }
         }
         let Some(drawn) = self.drawn_for(number) else {
             return Err(AllocError);
