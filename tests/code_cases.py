@@ -1,9 +1,10 @@
 #!/usr/bin/env python3
-"""The cases of crates/code_cases: accepted sources of all tables, and the code that is generated for each.
+"""The cases of crates/code_cases: rows (`match_cases.py`), code (`rule_cases.py`), and accepted sources of all tables with the code that
+is generated for each.
 
-    code_cases.py FOLDER     writes FOLDER/data/sources.txt and FOLDER/stdout
+    code_cases.py FOLDER     writes FOLDER/data/rows.txt, code.txt and sources.txt, and FOLDER/stdout
 
-The code is made here as `campl_code/specs/Generated` and `campl_code_bodies/specs` define it, and each listing is judged by
+The code of a source is made here as `campl_code/specs/Generated` and `campl_code_bodies/specs` define it, and each listing is judged by
 `generated.py`, which knows nothing of how code is made.
 """
 
@@ -13,7 +14,9 @@ import sys
 from random import Random
 
 import function_cases
+import match_cases
 import process_cases
+import rule_cases
 import trees as t
 from evaluation import Declared, bound_in
 from generated import COMPARISONS, CALCULATIONS, all_rows, breadth_first, judge, names_of
@@ -307,18 +310,30 @@ def cases():
             yield name, source, listing
 
 
-def main(words):
-    folder, found = words[0], list(cases())
+def tables():
+    """The file of sources, and what has to be printed of their code."""
+    found = list(cases())
     assert len({name for name, _, _ in found}) == len(found)
     totals = [judge(source, listing, Random(n)) for n, (_, source, listing) in enumerate(found)]
-    os.makedirs(os.path.join(folder, "data"), exist_ok=True)
-    with open(os.path.join(folder, "data", "sources.txt"), "w", encoding="utf-8", newline="") as file:
-        file.write("".join("== %s\n%s\n" % (name, source) for name, source, _ in found))
-    with open(os.path.join(folder, "stdout"), "w", encoding="utf-8", newline="") as file:
-        file.write("".join("== %s\nkeeps the rules\n%s" % (name, listing) for name, _, listing in found))
     print("%d sources with %d functions and %d processes" % (len(found), sum(f for f, _ in totals), sum(p for _, p in totals)))
+    sources = "".join("== %s\n%s\n" % (name, source) for name, source, _ in found)
+    return sources, "".join("== %s\nkeeps the rules\n%s" % (name, listing) for name, _, listing in found)
+
+
+def write(path, text):
+    with open(path, "w", encoding="utf-8", newline="") as file:
+        file.write(text)
+
+
+def main(words):
+    folder, printed = words[0], ""
+    os.makedirs(os.path.join(folder, "data"), exist_ok=True)
+    for name, (cases, answers) in (("rows", match_cases.tables()), ("code", rule_cases.tables()), ("sources", tables())):
+        write(os.path.join(folder, "data", name + ".txt"), cases)
+        printed += answers
+    write(os.path.join(folder, "stdout"), printed)
 
 
 if __name__ == "__main__":
     sys.setrecursionlimit(1_000_000)
-    sys.exit(main(sys.argv[1:]))
+    main(sys.argv[1:])

@@ -1,8 +1,7 @@
 #!/usr/bin/env python3
-"""What decisions find, worked from the rules of matching alone, and the cases of crates/match_cases.
+"""What decisions find, worked from the rules of matching alone, and the cases of rows of crates/code_cases.
 
-    match_cases.py --check    checks this reference by rows that were worked by hand
-    match_cases.py FOLDER     writes FOLDER/data/cases.txt and FOLDER/stdout
+    match_cases.py    checks this reference by rows that were worked by hand
 
 A row is tried by going down its patterns and the values together; no decision is made for that. The number of nodes comes
 from the rule that the first test of the first row is made, that rows which want another head there go where it holds, and
@@ -210,17 +209,13 @@ def check():
     print("%d rows worked by hand" % len(WORKED))
 
 
-def main(words):
-    if words == ["--check"]:
-        return check()
+def tables():
+    """The file of cases, and what has to be printed of them."""
+    check()
     cases = all_cases()
     assert len({name for name, _ in cases}) == len(cases)
-    os.makedirs(os.path.join(words[0], "data"), exist_ok=True)
-    with open(os.path.join(words[0], "data", "cases.txt"), "w", encoding="utf-8", newline="") as file:
-        file.write("".join("== %s\n%s" % case for case in cases))
-    with open(os.path.join(words[0], "stdout"), "w", encoding="utf-8", newline="") as file:
-        file.write("".join("== %s\n%s" % (name, answer(text)) for name, text in cases))
+    return "".join("== %s\n%s" % case for case in cases), "".join("== %s\n%s" % (name, answer(text)) for name, text in cases)
 
 
 if __name__ == "__main__":
-    main(sys.argv[1:])
+    check()

@@ -1,8 +1,7 @@
 #!/usr/bin/env python3
-"""The cases of crates/rule_cases: each instruction, and each rule kept and broken.
+"""The cases of code of crates/code_cases: each instruction, and each rule kept and broken.
 
-    rule_cases.py --check    checks this reference by rows that were worked by hand
-    rule_cases.py FOLDER     writes FOLDER/data/cases.txt and FOLDER/stdout
+    rule_cases.py    checks this reference by rows that were worked by hand
 
 A row is a name, code, and the block and place of its first fault, worked by hand, or None. The reference of `code_rules.py` has to
 find the same.
@@ -217,20 +216,15 @@ def check():
     print("%d rows worked by hand" % len(rows()))
 
 
-def main(words):
-    if words == ["--check"]:
-        return check()
+def tables():
+    """The file of cases, and what has to be printed of them."""
     check()
     cases = [(name, text) for name, text, _ in rows()] + list(by_chance(Random(5), 600))
     assert len({name for name, _ in cases}) == len(cases), [name for name, _ in cases if [n for n, _ in cases].count(name) > 1]
-    os.makedirs(os.path.join(words[0], "data"), exist_ok=True)
-    with open(os.path.join(words[0], "data", "cases.txt"), "w", encoding="utf-8", newline="") as file:
-        file.write("".join("== %s\n%s" % case for case in cases))
-    with open(os.path.join(words[0], "stdout"), "w", encoding="utf-8", newline="") as file:
-        file.write("".join("== %s\n%s" % (name, answer(text)) for name, text in cases))
-    kept = sum("keeps the rules" in answer(text) for _, text in cases)
-    print("%d cases, of which %d keep the rules" % (len(cases), kept))
+    answers = [(name, answer(text)) for name, text in cases]
+    print("%d cases of code, of which %d keep the rules" % (len(cases), sum("keeps the rules" in told for _, told in answers)))
+    return "".join("== %s\n%s" % case for case in cases), "".join("== %s\n%s" % told for told in answers)
 
 
 if __name__ == "__main__":
-    main(sys.argv[1:])
+    check()

@@ -1,5 +1,4 @@
-//! Cases, and what is printed of them.
-use crate::source::world_of;
+//! Rows, and what their decision finds.
 use crate::values::values_of;
 use anyhow::{Context, Result, bail};
 use campl_instructions::{Decision, Spot};
@@ -10,23 +9,8 @@ use campl_value::Value;
 use std::alloc::Global;
 use std::io::Write;
 
-/// Prints what is found in each case of a text.
-pub fn print_cases(alloc: Global, text: &str, out: &mut impl Write) -> Result<()> {
-    let cases = text.strip_prefix("== ").context("no case")?;
-    for case in cases.split("\n== ") {
-        let (name, source) = case.split_once('\n').context("a case has no source")?;
-        writeln!(out, "== {name}")?;
-        print_case(alloc, source, out)?;
-    }
-    Ok(())
-}
-
-fn print_case(alloc: Global, source: &str, out: &mut impl Write) -> Result<()> {
-    let world = world_of(alloc, source)?;
-    print_world(alloc, &world, out)
-}
-
-fn print_world(alloc: Global, world: &World, out: &mut impl Write) -> Result<()> {
+/// Prints what the decision of the rows of a world's function `rows` finds for each row of its function `values`.
+pub fn print_rows(alloc: Global, world: &World, out: &mut impl Write) -> Result<()> {
     let rows = function_named(alloc, world, "rows")?;
     let values = function_named(alloc, world, "values")?;
     let decision = decision_of(alloc, world, rows)?;

@@ -1,5 +1,5 @@
 use Rattle.std.proofs.Common.{vec_len}
-use Rattle.match_cases.proofs.values.list_of.Given as goal
+use Rattle.code_cases.proofs.values.list_of.Given as goal
 
 abbrev pub decreases-loop-item : goal.decreases-loop-item
 decreases-loop-item l = vec_len l.items
