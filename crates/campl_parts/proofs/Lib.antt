@@ -1,4 +1,5 @@
 pub mod Choosing
+pub mod Journals
 pub mod Living
 pub mod Padded
 pub mod Places

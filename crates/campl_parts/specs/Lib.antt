@@ -1,4 +1,5 @@
 pub mod Ends
+pub mod Entries
 pub mod Journal
 pub mod Plans
 pub mod Serving

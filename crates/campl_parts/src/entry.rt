@@ -1,5 +1,9 @@
 //! One reduction, told by numbers.
+ghost use Rattle.std.specs.Prelude.{◌≡◌, IfOk};
+ghost use Rattle.campl_parts.specs.Entries.{simple};
+
 use campl_value::Message;
+use std::alloc::AllocError;
 
 /// What a reduction is: an action of a process, or of a service.
 #[derive(Clone, Copy, Debug, PartialEq, Eq)]
@@ -50,4 +54,57 @@ pub struct Entry {
     /// The numbers of the channels that were born.
     pub channel: Option<u32>,
     pub channel2: Option<u32>,
+}
+
+impl Entry {
+    /// A step of this kind at this end, if it is at one, with the message that was sent or taken there, if one was.
+    #[inline]
+    pub fn simple(process: u32, kind: Kind, end: Option<u32>, message: Option<Message>) -> Entry
+        ensures { result ≡ simple process kind end message }
+    {
+        Entry {
+            process,
+            kind,
+            weight: 1,
+            end,
+            second: None,
+            message,
+            child: None,
+            channel: None,
+            channel2: None,
+        }
+    }
+
+    /// The same, which shares its message's parts with this one. An error means that memory is out.
+    pub fn copy(&self) -> Result<Entry, AllocError>
+        ensures { IfOk result (λ copy. copy ≡ self.now) }
+    {
+        let message = match copied(&self.message) {
+            Ok(message) => message,
+            Err(error) => return Err(error),
+        };
+        Ok(Entry {
+            process: self.process,
+            kind: self.kind,
+            weight: self.weight,
+            end: self.end,
+            second: self.second,
+            message,
+            child: self.child,
+            channel: self.channel,
+            channel2: self.channel2,
+        })
+    }
+}
+
+fn copied(message: &Option<Message>) -> Result<Option<Message>, AllocError>
+    ensures { IfOk result (λ copy. copy ≡ message.now) }
+{
+    match message {
+        None => Ok(None),
+        Some(message) => match message.copy() {
+            Ok(message) => Ok(Some(message)),
+            Err(error) => Err(error),
+        },
+    }
 }

@@ -6,7 +6,7 @@
 //! - `plan` and `look` make ready on copies what a step needs, so that nothing that comes later can fail.
 //! - `going` and `serving` then do to a process's part what the step does, `inbox` to an end; `people` and `wires` do the same at a
 //!   place of the tables of processes and of ends, which `tables` reads.
-//! - `entry` and `journal` tell what was done.
+//! - `entry` and `journal` tell what was done; most steps are told [`Brief`]ly.
 #![tactic(auto)]
 
 mod ends;
@@ -31,7 +31,7 @@ mod wires;
 pub use ends::Ends;
 pub use entry::{Entry, Kind};
 pub use inbox::EndPart;
-pub use journal::Journal;
+pub use journal::{Brief, Journal};
 pub use part::{Drawn, Life, ProcPart, Running};
 pub use people::{bear, go_on, reach, reach_with, turn_into};
 pub use place::{Begun, Place};

@@ -71,19 +71,19 @@ impl Solo {
     /// # Errors
     ///
     /// `AllocError` where memory or numbers are out. The run stands where it stood then.
-    pub fn step(&mut self, alloc: Global, program: &Program) -> Result<Option<Entry>, AllocError>
+    pub fn step(&mut self, alloc: Global, program: &Program, journal: &mut Journal) -> Result<bool, AllocError>
         requires { (source : Source) × (n : Naming) × (c : Configuration) × IsRun source (code_of program.now) n c self.old }
         ensures { (source : Source) (n : Naming) (c : Configuration) → IsRun source (code_of program.now) n c self.old
             → Steps source (code_of program.now) n c self.old self.new result }
     {
         while let Some(number) = self.schedule.first() {
-            match self.ask(alloc, program, number) {
-                Ok(None) => {}
-                Ok(Some(entry)) => return Ok(Some(entry)),
+            match self.ask(alloc, program, number, journal) {
+                Ok(false) => {}
+                Ok(true) => return Ok(true),
                 Err(error) => return Err(error),
             }
         }
-        Ok(None)
+        Ok(false)
     }
 
     /// Steps until nobody has one, or until the journal's weight is the budget; the journal gets an entry for each.
@@ -133,14 +133,7 @@ impl Solo {
             Ok(()) => {}
             Err(error) => return Err(error),
         }
-        match self.step(alloc, program) {
-            Ok(None) => Ok(false),
-            Ok(Some(entry)) => match journal.push(entry) {
-                Ok(()) => Ok(true),
-                Err(_) => Err(AllocError),
-            },
-            Err(error) => Err(error),
-        }
+        self.step(alloc, program, journal)
     }
 
     // Whether somebody has a step. Whoever is asked and has none is no longer flagged.

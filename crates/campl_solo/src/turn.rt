@@ -11,9 +11,9 @@ ghost use Rattle.campl_solo.specs.Solos.{IsRun};
 
 use crate::solo::Solo;
 use crate::tables::{grow, rest, wake_all};
-use campl_parts::Entry;
+use campl_parts::Journal;
 use campl_program::Program;
-use campl_steps::{Config, Made};
+use campl_steps::{Config, Made, Tried};
 use std::alloc::{AllocError, Global};
 
 impl Solo {
@@ -23,11 +23,29 @@ impl Solo {
         alloc: Global,
         program: &Program,
         number: u32,
-    ) -> Result<Option<Entry>, AllocError>
+        journal: &mut Journal,
+    ) -> Result<bool, AllocError>
         requires { (source : Source) × (n : Naming) × (c : Configuration) × IsRun source (code_of program.now) n c self.old × IsFirst n self.old number }
         ensures { (source : Source) (n : Naming) (c : Configuration) → IsRun source (code_of program.now) n c self.old → IsFirst n self.old number
             → Asked source (code_of program.now) n c self.old self.new result }
     {
+        match self.config.try_step(alloc, program, number, journal) {
+            Tried::Made(changed) => {
+                wake_all(&mut self.schedule, changed);
+                Ok(true)
+            }
+            Tried::OutOfMemory => Err(AllocError),
+            Tried::Still | Tried::Otherwise => self.ask_on_copies(alloc, program, number, journal),
+        }
+    }
+
+    fn ask_on_copies(
+        &mut self,
+        alloc: Global,
+        program: &Program,
+        number: u32,
+        journal: &mut Journal,
+    ) -> Result<bool, AllocError> {
         match self.schedule.make_room(alloc) {
             Ok(()) => {}
             Err(error) => return Err(error),
@@ -39,14 +57,14 @@ impl Solo {
         match first_step(&mut self.config, alloc, program, number, count) {
             Ok(None) => {
                 rest(&mut self.schedule, &self.config, program, number, count);
-                Ok(None)
+                Ok(false)
             }
             Ok(Some(made)) => {
                 let born = self.config.steps(number);
                 grow(&mut self.schedule, number, born, &made.entry);
                 wake_all(&mut self.schedule, made.changed);
-                let Made { entry, changed: _ } = made;
-                Ok(Some(entry))
+                journal.record(made.entry);
+                Ok(true)
             }
             Err(error) => Err(error),
         }

@@ -19,13 +19,13 @@ ghost use Rattle.campl_steps.specs.declared.in_place.Tried.TheVariants as t;
 
 use crate::config::Config;
 use crate::entries::{at_end, at_none};
-use crate::made::{Changed, Made};
+use crate::made::Changed;
 use crate::numbers::MOST_STEPS;
 use campl_instructions::Instr;
 use campl_kept::Reached;
 use campl_operands::Variables;
 use campl_parts::{
-    Entry, Kind, Running, Standing, arrive, owner, reach, reach_with, take, turn_into,
+    Entry, Journal, Kind, Running, Standing, arrive, owner, reach, reach_with, take, turn_into,
 };
 use campl_program::Program;
 use campl_value::{Message, Value};
@@ -33,11 +33,10 @@ use sqlite_items::at as item_at;
 use std::alloc::Global;
 
 /// What came of trying a step in place.
-//
-// Its drop is derived, so that what was made can be taken out.
-#[derive(Drop)]
-pub(crate) enum Tried {
-    Made(Made),
+#[derive(Clone, Copy, Debug)]
+pub enum Tried {
+    /// A step, whose entry is in the journal; something changed at these ends.
+    Made(Changed),
     /// There is no step.
     Still,
     OutOfMemory,
@@ -46,9 +45,23 @@ pub(crate) enum Tried {
 }
 
 impl Config {
-    /// The instruction of a process's command, if its expressions are evaluated, and it made few steps.
+    /// Tries the step of a process or service in place.
+    pub fn try_step(
+        &mut self,
+        alloc: Global,
+        program: &Program,
+        number: u32,
+        journal: &mut Journal,
+    ) -> Tried {
+        match self.command(program, number) {
+            None => Tried::Otherwise,
+            Some(instr) => self.step_in_place(alloc, program, number, instr, journal),
+        }
+    }
+
+    // The instruction of a process's command, if its expressions are evaluated, and it made few steps.
     #[inline]
-    pub(crate) fn command<'p>(&self, program: &'p Program, number: u32) -> Option<&'p Instr>
+    fn command<'p>(&self, program: &'p Program, number: u32) -> Option<&'p Instr>
         ensures { IfSome result (λ x. IsAt (code_of program.now) self.now number (view_instr x.now)) }
     {
         if MOST_STEPS <= self.steps(number) {
@@ -71,25 +84,26 @@ impl Config {
         }
     }
 
-    /// Tries the step of a process at this command in place. It is no race.
-    pub(crate) fn step_in_place(
+    // Tries the step of a process at this command in place. It is no race.
+    fn step_in_place(
         &mut self,
         alloc: Global,
         program: &Program,
         number: u32,
         instr: &Instr,
+        journal: &mut Journal,
     ) -> Tried
         requires { IsAt (code_of program.now) self.old number (view_instr instr.now) }
         ensures { (i : ℕ) → Tries (code_of program.now) number i self.old self.new result }
     {
         match instr {
-            Instr::Put(channel) => self.put(alloc, program, number, *channel),
+            Instr::Put(channel) => self.put(alloc, program, number, *channel, journal),
             Instr::Pick(channel, constructor) => {
-                self.pick(alloc, program, number, *channel, *constructor)
+                self.pick(alloc, program, number, *channel, *constructor, journal)
             }
-            Instr::Get(channel, variable) => self.get(alloc, program, number, *channel, *variable),
+            Instr::Get(channel, variable) => self.get(alloc, program, number, *channel, *variable, journal),
             Instr::Offer(channel, targets) => {
-                self.offer(alloc, program, number, *channel, targets.as_slice())
+                self.offer(alloc, program, number, *channel, targets.as_slice(), journal)
             }
             Instr::Case(decision, first, targets) => {
                 self.case(
@@ -99,16 +113,17 @@ impl Config {
                     *decision,
                     *first,
                     targets.as_slice(),
+                    journal,
                 )
             }
             Instr::Go(process, channels) => {
-                self.enter(alloc, program, number, *process, channels.as_slice())
+                self.enter(alloc, program, number, *process, channels.as_slice(), journal)
             }
             _ => Tried::Otherwise,
         }
     }
 
-    fn put(&mut self, alloc: Global, program: &Program, number: u32, channel: u32) -> Tried
+    fn put(&mut self, alloc: Global, program: &Program, number: u32, channel: u32, journal: &mut Journal) -> Tried
         requires { IsAt (code_of program.now) self.old number (i.Put channel) }
         ensures { (i : ℕ) → Tries (code_of program.now) number i self.old self.new result }
     {
@@ -132,7 +147,7 @@ impl Config {
         };
         let (message, told) = (Message::Word(message), Message::Word(told));
         match standing.onward(alloc, program, next, standing.variables) {
-            Ok(Some(reached)) => self.send(number, Kind::Put, end, message, told, reached),
+            Ok(Some(reached)) => self.send(number, Kind::Put, end, message, told, reached, journal),
             Ok(None) => Tried::Otherwise,
             Err(_) => Tried::OutOfMemory,
         }
@@ -145,6 +160,7 @@ impl Config {
         number: u32,
         channel: u32,
         constructor: u32,
+        journal: &mut Journal,
     ) -> Tried
         requires { IsAt (code_of program.now) self.old number (i.Pick channel constructor) }
         ensures { (i : ℕ) → Tries (code_of program.now) number i self.old self.new result }
@@ -160,7 +176,7 @@ impl Config {
         };
         let (message, told) = (Message::Pick(constructor), Message::Pick(constructor));
         match standing.onward(alloc, program, next, standing.variables) {
-            Ok(Some(reached)) => self.send(number, Kind::Pick, end, message, told, reached),
+            Ok(Some(reached)) => self.send(number, Kind::Pick, end, message, told, reached, journal),
             Ok(None) => Tried::Otherwise,
             Err(_) => Tried::OutOfMemory,
         }
@@ -176,6 +192,7 @@ impl Config {
         message: Message,
         told: Message,
         reached: Reached,
+        journal: &mut Journal,
     ) -> Tried
         requires { IsThere (procs self.old.processes.items number) }
         ensures { Went self.old self.new number (kept_by (reached_kept reached.at reached.values.items)) (told_of number (kind_of kind) (Some end) (Some told))
@@ -191,7 +208,7 @@ impl Config {
         }
         arrive(&mut self.ends, to, message);
         reach(&mut self.processes, number, reached);
-        made(at_end(number, kind, end, Some(told)), Changed::One(to))
+        made(journal, at_end(number, kind, end, Some(told)), Changed::One(to))
     }
 
     fn get(
@@ -201,6 +218,7 @@ impl Config {
         number: u32,
         channel: u32,
         variable: u32,
+        journal: &mut Journal,
     ) -> Tried
         requires { IsAt (code_of program.now) self.old number (i.Get channel variable) }
         ensures { (i : ℕ) → Tries (code_of program.now) number i self.old self.new result }
@@ -224,7 +242,7 @@ impl Config {
             return Tried::OutOfMemory;
         };
         match standing.onward(alloc, program, next, &variables) {
-            Ok(Some(reached)) => self.take_word(number, end, told, variables, reached),
+            Ok(Some(reached)) => self.take_word(number, end, told, variables, reached, journal),
             Ok(None) => Tried::Otherwise,
             Err(_) => Tried::OutOfMemory,
         }
@@ -252,6 +270,7 @@ impl Config {
         told: Value,
         variables: Variables,
         reached: Reached,
+        journal: &mut Journal,
     ) -> Tried
         requires { IsThere (procs self.old.processes.items number) }
         ensures { Went self.old self.new number (kept_by (λ kept. Values reached.at variables reached.values.items)) (told_of number k.Get (Some end) (Some (Word told)))
@@ -262,10 +281,7 @@ impl Config {
         }
         take(&mut self.ends, end);
         reach_with(&mut self.processes, number, variables, reached);
-        made(
-            at_end(number, Kind::Get, end, Some(Message::Word(told))),
-            Changed::One(end),
-        )
+        made(journal, at_end(number, Kind::Get, end, Some(Message::Word(told))), Changed::One(end))
     }
 
     fn offer(
@@ -275,6 +291,7 @@ impl Config {
         number: u32,
         channel: u32,
         targets: &[u32],
+        journal: &mut Journal,
     ) -> Tried
         requires { IsAt (code_of program.now) self.old number (i.Offer channel targets.now) }
         ensures { (i : ℕ) → Tries (code_of program.now) number i self.old self.new result }
@@ -292,7 +309,7 @@ impl Config {
             return Tried::Still;
         };
         match standing.onward(alloc, program, *to as usize, standing.variables) {
-            Ok(Some(reached)) => self.take_pick(number, end, constructor, reached),
+            Ok(Some(reached)) => self.take_pick(number, end, constructor, reached, journal),
             Ok(None) => Tried::Otherwise,
             Err(_) => Tried::OutOfMemory,
         }
@@ -313,7 +330,7 @@ impl Config {
 
     // Takes a constructor off an end, and tells it; the process goes on at the command that it reached.
     #[inline]
-    fn take_pick(&mut self, number: u32, end: u32, constructor: u32, reached: Reached) -> Tried
+    fn take_pick(&mut self, number: u32, end: u32, constructor: u32, reached: Reached, journal: &mut Journal) -> Tried
         requires { IsThere (procs self.old.processes.items number) }
         ensures { Went self.old self.new number (kept_by (reached_kept reached.at reached.values.items)) (told_of number k.Offer (Some end) (Some (Pick constructor)))
             (end ∷ []) (taken (tips self.old.ends.items) end) result }
@@ -323,10 +340,7 @@ impl Config {
         }
         take(&mut self.ends, end);
         reach(&mut self.processes, number, reached);
-        made(
-            at_end(number, Kind::Offer, end, Some(Message::Pick(constructor))),
-            Changed::One(end),
-        )
+        made(journal, at_end(number, Kind::Offer, end, Some(Message::Pick(constructor))), Changed::One(end))
     }
 
     // A match whose row sets no variable.
@@ -338,6 +352,7 @@ impl Config {
         decision: u32,
         first: u32,
         targets: &[u32],
+        journal: &mut Journal,
     ) -> Tried
         requires { IsAt (code_of program.now) self.old number (i.Case decision first targets.now) }
         ensures { (i : ℕ) → Tries (code_of program.now) number i self.old self.new result }
@@ -355,7 +370,7 @@ impl Config {
             return Tried::Otherwise;
         };
         match standing.onward(alloc, program, *to as usize, standing.variables) {
-            Ok(Some(reached)) => self.go_to(number, reached),
+            Ok(Some(reached)) => self.go_to(number, reached, journal),
             Ok(None) => Tried::Otherwise,
             Err(_) => Tried::OutOfMemory,
         }
@@ -363,12 +378,12 @@ impl Config {
 
     // The process goes on at the command that it reached by a match.
     #[inline]
-    fn go_to(&mut self, number: u32, reached: Reached) -> Tried
+    fn go_to(&mut self, number: u32, reached: Reached, journal: &mut Journal) -> Tried
         requires { IsThere (procs self.old.processes.items number) }
         ensures { Went self.old self.new number (kept_by (reached_kept reached.at reached.values.items)) (told_of number k.Case None None) [] [] result }
     {
         reach(&mut self.processes, number, reached);
-        made(at_none(number, Kind::Case), Changed::Nothing)
+        made(journal, at_none(number, Kind::Case), Changed::Nothing)
     }
 
     fn enter(
@@ -378,6 +393,7 @@ impl Config {
         number: u32,
         process: u32,
         channels: &[u32],
+        journal: &mut Journal,
     ) -> Tried
         requires { IsAt (code_of program.now) self.old number (i.Go process channels.now) }
         ensures { (i : ℕ) → Tries (code_of program.now) number i self.old self.new result }
@@ -390,7 +406,7 @@ impl Config {
             Some(_) => {}
         }
         match standing.called(alloc, program, process, channels) {
-            Ok(Some(running)) => self.turn(number, running),
+            Ok(Some(running)) => self.turn(number, running, journal),
             Ok(None) => Tried::Otherwise,
             Err(_) => Tried::OutOfMemory,
         }
@@ -398,20 +414,21 @@ impl Config {
 
     // The process goes on as that one by a call.
     #[inline]
-    fn turn(&mut self, number: u32, running: Running) -> Tried
+    fn turn(&mut self, number: u32, running: Running, journal: &mut Journal) -> Tried
         requires { IsThere (procs self.old.processes.items number) }
         ensures { Went self.old self.new number (turned (held_of running)) (told_of number k.Call None None) [] [] result }
     {
         turn_into(&mut self.processes, number, running);
-        made(at_none(number, Kind::Call), Changed::Nothing)
+        made(journal, at_none(number, Kind::Call), Changed::Nothing)
     }
 }
 
 #[inline]
-fn made(entry: Entry, changed: Changed) -> Tried
+fn made(journal: &mut Journal, entry: Entry, changed: Changed) -> Tried
     ensures { result ≡ t.Made (record { entry = entry; changed = changed }) }
 {
-    Tried::Made(Made { entry, changed })
+    journal.record(entry);
+    Tried::Made(changed)
 }
 
 // The value, where there is one alone.

@@ -29,6 +29,7 @@ mod watch;
 mod work;
 
 pub use config::Config;
+pub use in_place::Tried;
 pub use looks::Birth;
 pub use made::{Changed, Made};
 pub use outlook::Next;

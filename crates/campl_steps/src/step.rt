@@ -11,7 +11,6 @@ ghost use Rattle.campl_steps.specs.Stepping.{ComesTo, is_step, made_of};
 
 use crate::config::Config;
 use crate::entries::{at_end, of_link, of_move};
-use crate::in_place::Tried;
 use crate::made::{Changed, Made};
 use crate::numbers::MOST_STEPS;
 use crate::plan::Ready;
@@ -27,28 +26,6 @@ impl Config {
     /// `AllocError` where memory wants, or where there are 2^31 processes or channels or a process made 2^62 steps. Nothing has
     /// changed then.
     pub fn step(
-        &mut self,
-        alloc: Global,
-        program: &Program,
-        number: u32,
-        branch: u32,
-    ) -> Result<Option<Made>, AllocError>
-        requires { Wired (parts self.old) }
-        ensures { Stepped (code_of program.now) number branch self.old self.new result }
-    {
-        match self.command(program, number) {
-            None => self.step_on_copies(alloc, program, number, branch),
-            Some(instr) => match self.step_in_place(alloc, program, number, instr) {
-                Tried::Made(made) => Ok(Some(made)),
-                Tried::Still => Ok(None),
-                Tried::OutOfMemory => Err(AllocError),
-                Tried::Otherwise => self.step_on_copies(alloc, program, number, branch),
-            },
-        }
-    }
-
-    // The same, made ready on copies.
-    fn step_on_copies(
         &mut self,
         alloc: Global,
         program: &Program,
