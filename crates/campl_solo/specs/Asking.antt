@@ -1,5 +1,5 @@
 -- One is asked for its next step, by its branches in order.
-use Rattle.std.specs.Prelude.{◌<◌, ℕ, suc, Bool, true, false, List, [], ◌∷◌, Option, Some, None, Result, Ok, Err}
+use Rattle.std.specs.Prelude.{◌≡◌, ◌<◌, ℕ, suc, Bool, true, false, List, [], ◌∷◌, ◌++◌, Option, Some, None, Result, Ok, Err}
 use Rattle.std.specs.declared.alloc.AllocError.{AllocError}
 use Rattle.campl_tree.specs.Plain.Decl.{Program}
 use Rattle.campl_types.specs.World.{world_of}
@@ -11,6 +11,7 @@ use Rattle.campl_cells.specs.Wants.{Drawn}
 use Rattle.campl_cells.specs.Steps.{IsStill}
 use Rattle.campl_cells.specs.Stands.{Naming}
 use Rattle.campl_parts.specs.declared.entry.Entry.{Entry}
+use Rattle.campl_parts.specs.Journal.{Recorded}
 use Rattle.campl_steps.specs.declared.config.Config.{Config}
 use Rattle.campl_steps.specs.declared.made.Made.{Made}
 use Rattle.campl_steps.specs.Configs.{CanStep, IsMade, IsSame, drawn, parts}
@@ -51,11 +52,11 @@ pub record LiesDown (source : Program) (code : Code) (n : Naming) (c : Configura
   pub stays : Stays source code n c old new
   pub fewer : flags_up new.schedule.board.flags.items < flags_up old.schedule.board.flags.items
 
--- the first of the flagged made its step, or rests, or memory or numbers are out
-abbrev pub Asked : Program → Code → Naming → Configuration → (old new : Solo) → Result (Option Entry) AllocError → Type 0
-Asked source code n c old new (Ok (Some entry)) = HasStepped source code n c old entry new
-Asked source code n c old new (Ok None) = LiesDown source code n c old new
-Asked source code n c old new (Err error) = Stays source code n c old new
+-- the first of the flagged made its step, whose entry came into the journal, or rests, or memory or numbers are out
+abbrev pub Asked : Program → Code → Naming → Configuration → (old new : Solo) → (before after : Recorded) → Result Bool AllocError → Type 0
+Asked source code n c old new before after (Ok true) = (entry : Entry) × (after.entries ≡ before.entries ++ entry ∷ []) × HasStepped source code n c old entry new
+Asked source code n c old new before after (Ok false) = LiesDown source code n c old new × (after ≡ before)
+Asked source code n c old new before after (Err error) = Stays source code n c old new × (after ≡ before)
 
 -- the source may reduce, or the first of the flagged rests, or memory or numbers are out
 abbrev pub Looked : Program → Code → Naming → Configuration → (old new : Solo) → Result Bool AllocError → Type 0

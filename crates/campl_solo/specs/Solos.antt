@@ -70,12 +70,6 @@ pub record Stays (source : Program) (code : Code) (n : Naming) (c : Configuratio
   pub run : IsRun source code n c new
   pub same : parts new.config ≡ parts old.config
 
--- that step, or nobody has one, or memory or numbers are out
-abbrev pub Steps : Program → Code → Naming → Configuration → (old new : Solo) → Result (Option Entry) AllocError → Type 0
-Steps source code n c old new (Ok (Some entry)) = HasStepped source code n c old entry new
-Steps source code n c old new (Ok None) = Stays source code n c old new × Rest code new
-Steps source code n c old new (Err error) = Stays source code n c old new
-
 -- the entries that a run made, as journals tell them
 abbrev pub told : List Entry → List journals.Entry
 told entries = map (λ e. told_entry (entry_of e)) entries

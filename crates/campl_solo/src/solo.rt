@@ -13,10 +13,10 @@ ghost use Rattle.campl_eval.specs.View.{code_of};
 ghost use Rattle.campl_parts.specs.Journal.{weight_of};
 ghost use Rattle.campl_solo.specs.Asking.{Searched};
 ghost use Rattle.campl_solo.specs.Beginning.{servings_at_start};
-ghost use Rattle.campl_solo.specs.Solos.{IsAtStart, IsRun, Ran, Steps, Written};
+ghost use Rattle.campl_solo.specs.Solos.{IsAtStart, IsRun, Ran, Written};
 
 use campl_order::Schedule;
-use campl_parts::{Entry, Journal};
+use campl_parts::Journal;
 use campl_program::Program;
 use campl_service::Service;
 use campl_steps::Config;
@@ -66,16 +66,26 @@ impl Solo {
         }
     }
 
-    /// A step of the first who has one; `None` where nobody has.
+    /// A step of the first who has one, with its entry in the journal; whether somebody had one.
     ///
     /// # Errors
     ///
-    /// `AllocError` where memory or numbers are out. The run stands where it stood then.
-    pub fn step(&mut self, alloc: Global, program: &Program, journal: &mut Journal) -> Result<bool, AllocError>
-        requires { (source : Source) × (n : Naming) × (c : Configuration) × IsRun source (code_of program.now) n c self.old }
+    /// `AllocError` where memory or numbers are out. Run and journal stand where they stood then.
+    pub fn step(
+        &mut self,
+        alloc: Global,
+        program: &Program,
+        journal: &mut Journal,
+    ) -> Result<bool, AllocError>
+        requires run { (source : Source) × (n : Naming) × (c : Configuration) × IsRun source (code_of program.now) n c self.old }
+        requires within { weight_of journal.old.entries + 1 < 2 ^ 64 }
         ensures { (source : Source) (n : Naming) (c : Configuration) → IsRun source (code_of program.now) n c self.old
-            → Steps source (code_of program.now) n c self.old self.new result }
+            → Written source (code_of program.now) n c self.old self.new journal.old.entries journal.new.entries result }
     {
+        match journal.make_room(1) {
+            Ok(()) => {}
+            Err(error) => return Err(error),
+        }
         while let Some(number) = self.schedule.first() {
             match self.ask(alloc, program, number, journal) {
                 Ok(false) => {}
@@ -104,7 +114,7 @@ impl Solo {
             → Ran source (code_of program.now) budget n c self.old self.new journal.old.entries journal.new.entries result }
     {
         while journal.weight() < budget {
-            match self.write_down(alloc, program, journal) {
+            match self.step(alloc, program, journal) {
                 Ok(true) => {}
                 Ok(false) => return Ok(Stop::Rested),
                 Err(error) => return Err(error),
@@ -115,25 +125,6 @@ impl Solo {
             Ok(false) => Ok(Stop::Rested),
             Err(error) => Err(error),
         }
-    }
-
-    // A step of the first who has one, with its entry in the journal; whether somebody has one.
-    fn write_down(
-        &mut self,
-        alloc: Global,
-        program: &Program,
-        journal: &mut Journal,
-    ) -> Result<bool, AllocError>
-        requires run { (source : Source) × (n : Naming) × (c : Configuration) × IsRun source (code_of program.now) n c self.old }
-        requires within { weight_of journal.old.entries + 1 < 2 ^ 64 }
-        ensures { (source : Source) (n : Naming) (c : Configuration) → IsRun source (code_of program.now) n c self.old
-            → Written source (code_of program.now) n c self.old self.new journal.old.entries journal.new.entries result }
-    {
-        match journal.make_room(1) {
-            Ok(()) => {}
-            Err(error) => return Err(error),
-        }
-        self.step(alloc, program, journal)
     }
 
     // Whether somebody has a step. Whoever is asked and has none is no longer flagged.

@@ -1,9 +1,11 @@
 //! The turn of one: its step by its first branch that is ready, if it has one.
-ghost use Rattle.std.specs.Prelude.{◌≡◌, ℕ};
+ghost use Rattle.std.specs.Prelude.{◌≡◌, ◌≤◌, ◌<◌, ◌+◌, ◌^◌, ℕ};
 ghost use Rattle.campl_tree.specs.Plain.Decl.{Program as Source};
 ghost use Rattle.campl_meaning.specs.Reductions.{Configuration};
 ghost use Rattle.campl_cells.specs.Stands.{Naming, Wired};
 ghost use Rattle.campl_eval.specs.View.{code_of};
+ghost use Rattle.campl_parts.specs.Journal.{weight_of};
+ghost use Rattle.campl_order.specs.Waiting.{HasRoom};
 ghost use Rattle.campl_steps.specs.Configs as configs;
 ghost use Rattle.campl_steps.specs.Configs.{parts};
 ghost use Rattle.campl_solo.specs.Asking.{Asked, HasBranch, IsFirst, Looked, Turned};
@@ -17,7 +19,7 @@ use campl_steps::{Config, Made, Tried};
 use std::alloc::{AllocError, Global};
 
 impl Solo {
-    /// The step of this one, the first that is flagged, if it has one; it is no longer flagged else.
+    /// The step of this one, the first that is flagged, if it has one, with its entry in the journal; it is no longer flagged else.
     pub(crate) fn ask(
         &mut self,
         alloc: Global,
@@ -25,31 +27,42 @@ impl Solo {
         number: u32,
         journal: &mut Journal,
     ) -> Result<bool, AllocError>
-        requires { (source : Source) × (n : Naming) × (c : Configuration) × IsRun source (code_of program.now) n c self.old × IsFirst n self.old number }
+        requires run { (source : Source) × (n : Naming) × (c : Configuration) × IsRun source (code_of program.now) n c self.old × IsFirst n self.old number }
+        requires room { (1 ≤ journal.old.spare) × (1 ≤ journal.old.spare_full) }
+        requires within { weight_of journal.old.entries + 1 < 2 ^ 64 }
         ensures { (source : Source) (n : Naming) (c : Configuration) → IsRun source (code_of program.now) n c self.old → IsFirst n self.old number
-            → Asked source (code_of program.now) n c self.old self.new result }
+            → Asked source (code_of program.now) n c self.old self.new journal.old journal.new result }
     {
-        match self.config.try_step(alloc, program, number, journal) {
+        match self.schedule.make_room(alloc) {
+            Ok(()) => {}
+            Err(error) => return Err(error),
+        }
+        match self.config.step_in_place(alloc, program, number, journal) {
             Tried::Made(changed) => {
                 wake_all(&mut self.schedule, changed);
                 Ok(true)
             }
             Tried::OutOfMemory => Err(AllocError),
-            Tried::Still | Tried::Otherwise => self.ask_on_copies(alloc, program, number, journal),
+            Tried::Still => self.turn(alloc, program, number, journal),
+            Tried::Otherwise => self.turn(alloc, program, number, journal),
         }
     }
 
-    fn ask_on_copies(
+    // The same on copies, where there is room in the tables.
+    fn turn(
         &mut self,
         alloc: Global,
         program: &Program,
         number: u32,
         journal: &mut Journal,
-    ) -> Result<bool, AllocError> {
-        match self.schedule.make_room(alloc) {
-            Ok(()) => {}
-            Err(error) => return Err(error),
-        }
+    ) -> Result<bool, AllocError>
+        requires run { (source : Source) × (n : Naming) × (c : Configuration) × IsRun source (code_of program.now) n c self.old × IsFirst n self.old number }
+        requires tables { HasRoom self.old.schedule }
+        requires room { (1 ≤ journal.old.spare) × (1 ≤ journal.old.spare_full) }
+        requires within { weight_of journal.old.entries + 1 < 2 ^ 64 }
+        ensures { (source : Source) (n : Naming) (c : Configuration) → IsRun source (code_of program.now) n c self.old → IsFirst n self.old number
+            → Asked source (code_of program.now) n c self.old self.new journal.old journal.new result }
+    {
         let count = match self.config.branches(program, number) {
             Ok(count) => count,
             Err(error) => return Err(error),
@@ -63,7 +76,8 @@ impl Solo {
                 let born = self.config.steps(number);
                 grow(&mut self.schedule, number, born, &made.entry);
                 wake_all(&mut self.schedule, made.changed);
-                journal.record(made.entry);
+                let Made { entry, changed: _ } = made;
+                journal.record(entry);
                 Ok(true)
             }
             Err(error) => Err(error),

@@ -21,16 +21,19 @@ use Rattle.campl_parts.specs.declared.entry.Entry.{Entry}
 use Rattle.campl_parts.specs.declared.part.ProcPart.{ProcPart}
 use Rattle.campl_parts.specs.Standing.{IsStanding, kept_by, reached_kept, turned}
 use Rattle.campl_parts.specs.Tables.{procs, tips}
+use Rattle.campl_parts.specs.declared.journal.Brief.TheVariants as brief
+use Rattle.campl_parts.specs.Journal.{Recorded, brief_entry}
 use Rattle.campl_parts.specs.Views.{entry_of, held_of, life_of, proc_of}
 use Rattle.campl_value.specs.declared.message.Message.{Message}
 use Rattle.campl_steps.specs.declared.config.Config.{Config}
+use Rattle.campl_steps.specs.declared.made.Changed.{Changed}
 use Rattle.campl_steps.specs.declared.made.Changed.TheVariants.{One}
 use Rattle.campl_steps.specs.declared.in_place.Tried.{Tried}
 use Rattle.campl_steps.specs.declared.in_place.Tried.TheVariants as t
 use Rattle.campl_steps.specs.declared.plan.Borne.TheVariants as b
-use Rattle.campl_steps.specs.Configs.{IsAmong, IsSame, drawn, parts}
+use Rattle.campl_steps.specs.Configs.{IsAmong, IsMade, drawn, parts}
 use Rattle.campl_steps.specs.Doing.{Did, owners, taken}
-use Rattle.campl_steps.specs.InPlace.{IsAt, StandsAt, Tries, Went, instr_kept, instr_of, told_of}
+use Rattle.campl_steps.specs.InPlace.{HasTold, IsAt, StandsAt, Tries, Went, instr_kept, instr_of, told_of}
 use Rattle.campl_steps.specs.Readiness.{first_at, first_in}
 use Rattle.campl_steps.proofs.Making.{looked-else, looks-changed, made-by, moved-else}
 
@@ -52,18 +55,18 @@ went-on old new p life changes goes ends count count2 q h = record {
   ends = count2 ∙ omega arith;
 }
 
-pub sent-went : (old mid new : Config) (p : ℕ) (life : Life → Life) (told : steps.Entry) (end to : ℕ) (message : Message) (entry : Entry) (result : Tried) → result ≡ t.Made (record { entry = entry; changed = One to })
-    → entry_of entry ≡ told → to ≡ owner (tips old.ends.items) end → mid.processes ≡ old.processes → tips mid.ends.items ≡ tips old.ends.items → length mid.ends.items ≡ length old.ends.items
+pub sent-went : (old mid new : Config) (p : ℕ) (life : Life → Life) (told : Entry) (end to : ℕ) (message : Message) (before after : Recorded) → after.entries ≡ before.entries ++ told ∷ []
+    → to ≡ owner (tips old.ends.items) end → mid.processes ≡ old.processes → tips mid.ends.items ≡ tips old.ends.items → length mid.ends.items ≡ length old.ends.items
     → ((q : Proc) → procs mid.processes.items p ≡ Some q → procs new.processes.items ≡ put p (Some (goes_on q (life q.life))) (procs mid.processes.items))
     → tips new.ends.items ≡ put to (Some (arrives message (or_bare (tips mid.ends.items to)))) (tips mid.ends.items)
     → length new.processes.items ≡ length mid.processes.items → length new.ends.items ≡ length mid.ends.items
-    → Went old new p life told (owner (tips old.ends.items) end ∷ []) (sent (Some (end, message)) (tips old.ends.items)) result
-sent-went old mid new p life told end to message entry result is tells place ps same count goes arrived count2 count3 =
+    → Went old new p life told (owner (tips old.ends.items) end ∷ []) (sent (Some (end, message)) (tips old.ends.items)) before after (t.Made (One to))
+sent-went old mid new p life told end to message before after appended place ps same count goes arrived count2 count3 =
     let went = went-on old new p life (sent (Some (end, message)) (tips old.ends.items))
     (λ q h. goes q ((λ i. procs (ps i).items p) ∙ h) ∙ (λ i. put p (Some (goes_on q (life q.life))) (procs (ps i).items)))
     (arrived ∙ (λ i. put (place i) (Some (arrives message (or_bare (same i (place i))))) (same i)))
     (count2 ∙ (λ i. length (ps i).items)) (count3 ∙ count) in
-    subst (Went old new p life told (owner (tips old.ends.items) end ∷ []) (sent (Some (end, message)) (tips old.ends.items))) (sym is) (tells, (λ i. place i ∷ []), went)
+    (appended, (λ i. place i ∷ []), went)
 
 -- a part that is there stands where it says
 pub stands-some : (old : Config) (p : ℕ) (part : ProcPart) → procs old.processes.items p ≡ Some (proc_of part) → (o : Option Standing) → IfSome o (IsStanding (life_of part.life)) → IfSome o (StandsAt old p)
@@ -74,6 +77,18 @@ module _ (code : Code) (old : Config) (p : ℕ) where
   abbrev tip : ℕ → Option Tip
   tip = tips old.ends.items
 
+  -- what is told of it bore nothing
+  has-told : (branch : ℕ) (kind : k.Kind) (end : Option ℕ) (message : Option Mail) (told : Entry) → entry_of told ≡ told_of p kind end message
+      → (new : Config) (before after : Recorded) (changed : Changed) → after.entries ≡ before.entries ++ told ∷ [] → IsMade code p branch old (record { entry = told; changed = changed }) new → HasTold code p branch old new before after changed
+  has-told branch kind end message told tells new before after changed appended made = record {
+    entry = told;
+    appended = appended;
+    made = made;
+    child = ap (λ (e : steps.Entry). e.child) tells;
+    channel = ap (λ (e : steps.Entry). e.channel) tells;
+    channel2 = ap (λ (e : steps.Entry). e.channel2) tells;
+  }
+
   -- It moves
 
   sends-alone : (send : Option (ℕ × Mail)) → sent send tip ≡ sent send tip ++ []
@@ -83,32 +98,36 @@ module _ (code : Code) (old : Config) (p : ℕ) where
   moved-tried : (q : Proc) → procs old.processes.items p ≡ Some q → (branch : ℕ) (kind : k.Kind) (end : Option ℕ) (send : Option (ℕ × Mail)) (start : Start) (life : Life → Life)
       → wanted code (drawn old) q.life branch ≡ Moves kind end (record { send = send; channels = []; child = None; next = Begins start })
       → IsLifeOf code (Begins start) (life q.life)
-      → (new : Config) (result : Tried) → Went old new p life (told_of p kind end (option_map (λ s. s.1) send)) (owners tip send) (sent send tip) result → Tries code p branch old new result
-  moved-tried q there branch kind end send start life wants lives new (t.Made made) went =
+      → (told : Entry) → entry_of told ≡ told_of p kind end (option_map (λ s. s.1) send)
+      → (new : Config) (before after : Recorded) (result : Tried) → Went old new p life told (owners tip send) (sent send tip) before after result → Tries code p branch old new before after result
+  moved-tried q there branch kind end send start life wants lives told tells new before after (t.Made changed) went =
       let did = went.2 q there in
       let v : Move = record { send = send; channels = []; child = None; next = Begins start } in
-      made-by code p branch old new q there (moved tip (drawn old) p kind end v) (life q.life) None made
-      (ap (by_want tip (drawn old) p) wants) went.0 lives tt (did.process q there) (did.tip ∙ ap (λ (es : List (ℕ × Tip)). written es tip) (sends-alone send)) did.processes did.ends
-      (λ j h n l. moved-else old b.None send j h (λ a. n (subst (λ (xs : List ℕ). IsAmong xs j) (sym went.1) a)) l)
-  moved-tried q there branch kind end send start life wants lives new t.Still went = absurd went
-  moved-tried q there branch kind end send start life wants lives new t.OutOfMemory went = went
-  moved-tried q there branch kind end send start life wants lives new t.Otherwise went = went
+      has-told branch kind end (option_map (λ s. s.1) send) told tells new before after changed went.0
+      (made-by code p branch old new q there (moved tip (drawn old) p kind end v) (life q.life) None (record { entry = told; changed = changed })
+      (ap (by_want tip (drawn old) p) wants) tells lives tt (did.process q there) (did.tip ∙ ap (λ (es : List (ℕ × Tip)). written es tip) (sends-alone send)) did.processes did.ends
+      (λ j h n l. moved-else old b.None send j h (λ a. n (subst (λ (xs : List ℕ). IsAmong xs j) (sym went.1) a)) l))
+  moved-tried q there branch kind end send start life wants lives told tells new before after t.Still went = absurd went
+  moved-tried q there branch kind end send start life wants lives told tells new before after t.OutOfMemory went = went
+  moved-tried q there branch kind end send start life wants lives told tells new before after t.Otherwise went = went
 
   -- It looks
 
   looked-tried : (q : Proc) → procs old.processes.items p ≡ Some q → (branch : ℕ) (kind : k.Kind) (e : ℕ) (f : Mail → Option Next) (mail : Mail) (start : Start) (life : Life → Life)
       → wanted code (drawn old) q.life branch ≡ Looks kind true e f → first_in tip e ≡ Some mail → f mail ≡ Some (Begins start) → IsLifeOf code (Begins start) (life q.life)
-      → (new : Config) (result : Tried) → Went old new p life (told_of p kind (Some e) (Some mail)) (e ∷ []) (taken tip e) result → Tries code p branch old new result
-  looked-tried q there branch kind e f mail start life wants first fits lives new (t.Made made) went =
+      → (told : Entry) → entry_of told ≡ told_of p kind (Some e) (Some mail)
+      → (new : Config) (before after : Recorded) (result : Tried) → Went old new p life told (e ∷ []) (taken tip e) before after result → Tries code p branch old new before after result
+  looked-tried q there branch kind e f mail start life wants first fits lives told tells new before after (t.Made changed) went =
       let did = went.2 q there in
       let tip-is = or_bare (tip e) in
-      made-by code p branch old new q there (looked p kind true e tip-is.peer mail (drop 1 tip-is.inbox) (Begins start)) (life q.life) None made
+      has-told branch kind (Some e) (Some mail) told tells new before after changed went.0
+      (made-by code p branch old new q there (looked p kind true e tip-is.peer mail (drop 1 tip-is.inbox) (Begins start)) (life q.life) None (record { entry = told; changed = changed })
       (ap (by_want tip (drawn old) p) wants ∙ looks-changed p kind true e f tip-is.peer tip-is.inbox mail (Begins start) first fits)
-      went.0 lives tt (did.process q there) did.tip did.processes did.ends
-      (λ j h n l. looked-else true e (record { peer = tip-is.peer; inbox = drop 1 tip-is.inbox }) j (λ a. n (subst (λ (xs : List ℕ). IsAmong xs j) (sym went.1) a)) l)
-  looked-tried q there branch kind e f mail start life wants first fits lives new t.Still went = absurd went
-  looked-tried q there branch kind e f mail start life wants first fits lives new t.OutOfMemory went = went
-  looked-tried q there branch kind e f mail start life wants first fits lives new t.Otherwise went = went
+      tells lives tt (did.process q there) did.tip did.processes did.ends
+      (λ j h n l. looked-else true e (record { peer = tip-is.peer; inbox = drop 1 tip-is.inbox }) j (λ a. n (subst (λ (xs : List ℕ). IsAmong xs j) (sym went.1) a)) l))
+  looked-tried q there branch kind e f mail start life wants first fits lives told tells new before after t.Still went = absurd went
+  looked-tried q there branch kind e f mail start life wants first fits lives told tells new before after t.OutOfMemory went = went
+  looked-tried q there branch kind e f mail start life wants first fits lives told tells new before after t.Otherwise went = went
 
   module _ (s : Standing) (stands : StandsAt old p s) where
     abbrev held : Held
@@ -159,53 +178,53 @@ module _ (code : Code) (old : Config) (p : ℕ) where
 
     pub put-tried : (n e : ℕ) (v message told : Tree) → IsAt code old p (i.Put n) → held.ends n ≡ Some e → s.values.now ≡ v ∷ [] → message ≡ v → told ≡ v
         → (next : ℕ) → next ≡ s.at + 1 → (to : ℕ) (values : List Tree) → Keeps code (frame_at s.running.now.block next vars) [] 0 (Values to vars values)
-        → (new : Config) (result : Tried) → Went old new p (kept_by (reached_kept to values)) (told_of p k.Put (Some e) (Some (Word told))) (owners tip (Some (e, Word message))) (sent (Some (e, Word message)) tip) result
-        → (branch : ℕ) → Tries code p branch old new result
-    put-tried n e v message told is ends one copied copied2 next place to values keeps new result went branch =
+        → (new : Config) (before after : Recorded) (result : Tried) → Went old new p (kept_by (reached_kept to values)) (brief_entry p (brief.Put e told)) (owners tip (Some (e, Word message))) (sent (Some (e, Word message)) tip) before after result
+        → (branch : ℕ) → Tries code p branch old new before after result
+    put-tried n e v message told is ends one copied copied2 next place to values keeps new before after result went branch =
         moved-tried q stands.there branch k.Put (Some e) (Some (e, Word v)) (start_at held (s.at + 1) vars held.ends) (kept_by (reached_kept to values))
-        ((wants (i.Put n) is branch).1 ∙ rw (ends, one) refl) (reaches (s.at + 1) to values (subst (λ (at : ℕ). Keeps code (frame_at s.running.now.block at vars) [] 0 (Values to vars values)) place keeps)) new result
-        (subst (λ (m : Tree). Went old new p (kept_by (reached_kept to values)) (told_of p k.Put (Some e) (Some (Word v))) (owners tip (Some (e, Word m))) (sent (Some (e, Word m)) tip) result) copied
-        (subst (λ (t : Tree). Went old new p (kept_by (reached_kept to values)) (told_of p k.Put (Some e) (Some (Word t))) (owners tip (Some (e, Word message))) (sent (Some (e, Word message)) tip) result) copied2 went))
+        ((wants (i.Put n) is branch).1 ∙ rw (ends, one) refl) (reaches (s.at + 1) to values (subst (λ (at : ℕ). Keeps code (frame_at s.running.now.block at vars) [] 0 (Values to vars values)) place keeps)) (brief_entry p (brief.Put e v)) refl new before after result
+        (subst (λ (m : Tree). Went old new p (kept_by (reached_kept to values)) (brief_entry p (brief.Put e v)) (owners tip (Some (e, Word m))) (sent (Some (e, Word m)) tip) before after result) copied
+        (subst (λ (t : Tree). Went old new p (kept_by (reached_kept to values)) (brief_entry p (brief.Put e t)) (owners tip (Some (e, Word message))) (sent (Some (e, Word message)) tip) before after result) copied2 went))
 
     pub pick-tried : (n e c : ℕ) → IsAt code old p (i.Pick n c) → held.ends n ≡ Some e
         → (next : ℕ) → next ≡ s.at + 1 → (to : ℕ) (values : List Tree) → Keeps code (frame_at s.running.now.block next vars) [] 0 (Values to vars values)
-        → (new : Config) (result : Tried) → Went old new p (kept_by (reached_kept to values)) (told_of p k.Pick' (Some e) (Some (Pick c))) (owners tip (Some (e, Pick c))) (sent (Some (e, Pick c)) tip) result
-        → (branch : ℕ) → Tries code p branch old new result
-    pick-tried n e c is ends next place to values keeps new result went branch =
+        → (new : Config) (before after : Recorded) (result : Tried) → Went old new p (kept_by (reached_kept to values)) (brief_entry p (brief.Pick e c)) (owners tip (Some (e, Pick c))) (sent (Some (e, Pick c)) tip) before after result
+        → (branch : ℕ) → Tries code p branch old new before after result
+    pick-tried n e c is ends next place to values keeps new before after result went branch =
         moved-tried q stands.there branch k.Pick' (Some e) (Some (e, Pick c)) (start_at held (s.at + 1) vars held.ends) (kept_by (reached_kept to values))
-        ((wants (i.Pick n c) is branch).1 ∙ rw ends refl) (reaches (s.at + 1) to values (subst (λ (at : ℕ). Keeps code (frame_at s.running.now.block at vars) [] 0 (Values to vars values)) place keeps)) new result went
+        ((wants (i.Pick n c) is branch).1 ∙ rw ends refl) (reaches (s.at + 1) to values (subst (λ (at : ℕ). Keeps code (frame_at s.running.now.block at vars) [] 0 (Values to vars values)) place keeps)) (brief_entry p (brief.Pick e c)) refl new before after result went
 
     pub case-tried : (m base : ℕ) (targets : List ℕ) (d : Decision) (row at : ℕ) → IsAt code old p (i.Case m base targets)
         → slice_get code.decisions m ≡ Some d → chosen d.tree s.values.now ≡ Some (row, []) → slice_get targets row ≡ Some at
         → (to : ℕ) (values : List Tree) → Keeps code (frame_at s.running.now.block at vars) [] 0 (Values to vars values)
-        → (new : Config) (result : Tried) → Went old new p (kept_by (reached_kept to values)) (told_of p k.Case None None) [] [] result
-        → (branch : ℕ) → Tries code p branch old new result
-    case-tried m base targets d row at is decides chooses target to values keeps new result went branch =
+        → (new : Config) (before after : Recorded) (result : Tried) → Went old new p (kept_by (reached_kept to values)) (brief_entry p brief.Case) [] [] before after result
+        → (branch : ℕ) → Tries code p branch old new before after result
+    case-tried m base targets d row at is decides chooses target to values keeps new before after result went branch =
         moved-tried q stands.there branch k.Case None None (start_at held at vars held.ends) (kept_by (reached_kept to values))
-        ((wants (i.Case m base targets) is branch).1 ∙ rw (decides, chooses, target) refl) (reaches at to values keeps) new result went
+        ((wants (i.Case m base targets) is branch).1 ∙ rw (decides, chooses, target) refl) (reaches at to values keeps) (brief_entry p brief.Case) refl new before after result went
 
     pub call-tried : (g : ℕ) (channels : List ℕ) (block : Block) → IsAt code old p (i.Go g channels) → slice_get code.processes g ≡ Some block
         → (h : Held) → IsLifeOf code (Begins (called code held g channels s.values.now block)) (Runs h)
-        → (new : Config) (result : Tried) → Went old new p (turned h) (told_of p k.Call None None) [] [] result
-        → (branch : ℕ) → Tries code p branch old new result
-    call-tried g channels block is there h lives new result went branch =
+        → (new : Config) (before after : Recorded) (result : Tried) → Went old new p (turned h) (brief_entry p brief.Call) [] [] before after result
+        → (branch : ℕ) → Tries code p branch old new before after result
+    call-tried g channels block is there h lives new before after result went branch =
         moved-tried q stands.there branch k.Call None None (called code held g channels s.values.now block) (turned h)
         ((wants (i.Go g channels) is branch).1 ∙ rw there refl)
-        (subst (IsLifeOf code (Begins (called code held g channels s.values.now block))) (sym (ap (turned h) stands.stands.0)) lives) new result went
+        (subst (IsLifeOf code (Begins (called code held g channels s.values.now block))) (sym (ap (turned h) stands.stands.0)) lives) (brief_entry p brief.Call) refl new before after result went
 
     pub get-tried : (n e w : ℕ) (v told : Tree) (env : List Tree) → IsAt code old p (i.Get n w) → held.ends n ≡ Some e → first_in tip e ≡ Some (Word v) → told ≡ v → env ≡ slice_set vars w v
         → (next : ℕ) → next ≡ s.at + 1 → (to : ℕ) (values : List Tree) → Keeps code (frame_at s.running.now.block next env) [] 0 (Values to env values)
-        → (new : Config) (result : Tried) → Went old new p (kept_by (λ kept. Values to env values)) (told_of p k.Get (Some e) (Some (Word told))) (e ∷ []) (taken tip e) result
-        → (branch : ℕ) → Tries code p branch old new result
-    get-tried n e w v told env is ends first copied set next place to values keeps new result went branch =
+        → (new : Config) (before after : Recorded) (result : Tried) → Went old new p (kept_by (λ kept. Values to env values)) (brief_entry p (brief.Get e told)) (e ∷ []) (taken tip e) before after result
+        → (branch : ℕ) → Tries code p branch old new before after result
+    get-tried n e w v told env is ends first copied set next place to values keeps new before after result went branch =
         looked-tried q stands.there branch k.Get e (after_get held (s.at + 1) vars w) (Word v) (start_at held (s.at + 1) env held.ends) (kept_by (λ kept. Values to env values))
-        ((wants (i.Get n w) is branch).1 ∙ rw ends refl) first (ap (λ (env : List Tree). Some (Begins (start_at held (s.at + 1) env held.ends))) (sym set)) (begins (s.at + 1) to env values (subst (λ (at : ℕ). Keeps code (frame_at s.running.now.block at env) [] 0 (Values to env values)) place keeps)) new result
-        (subst (λ (t : Tree). Went old new p (kept_by (λ kept. Values to env values)) (told_of p k.Get (Some e) (Some (Word t))) (e ∷ []) (taken tip e) result) copied went)
+        ((wants (i.Get n w) is branch).1 ∙ rw ends refl) first (ap (λ (env : List Tree). Some (Begins (start_at held (s.at + 1) env held.ends))) (sym set)) (begins (s.at + 1) to env values (subst (λ (at : ℕ). Keeps code (frame_at s.running.now.block at env) [] 0 (Values to env values)) place keeps)) (brief_entry p (brief.Get e v)) refl new before after result
+        (subst (λ (t : Tree). Went old new p (kept_by (λ kept. Values to env values)) (brief_entry p (brief.Get e t)) (e ∷ []) (taken tip e) before after result) copied went)
 
     pub offer-tried : (n e c at : ℕ) (targets : List ℕ) → IsAt code old p (i.Offer n targets) → held.ends n ≡ Some e → first_in tip e ≡ Some (Pick c) → slice_get targets c ≡ Some at
         → (to : ℕ) (values : List Tree) → Keeps code (frame_at s.running.now.block at vars) [] 0 (Values to vars values)
-        → (new : Config) (result : Tried) → Went old new p (kept_by (reached_kept to values)) (told_of p k.Offer (Some e) (Some (Pick c))) (e ∷ []) (taken tip e) result
-        → (branch : ℕ) → Tries code p branch old new result
-    offer-tried n e c at targets is ends first target to values keeps new result went branch =
+        → (new : Config) (before after : Recorded) (result : Tried) → Went old new p (kept_by (reached_kept to values)) (brief_entry p (brief.Offer e c)) (e ∷ []) (taken tip e) before after result
+        → (branch : ℕ) → Tries code p branch old new before after result
+    offer-tried n e c at targets is ends first target to values keeps new before after result went branch =
         looked-tried q stands.there branch k.Offer e (after_offer held vars targets) (Pick c) (start_at held at vars held.ends) (kept_by (reached_kept to values))
-        ((wants (i.Offer n targets) is branch).1 ∙ rw ends refl) first (rw target refl) (reaches at to values keeps) new result went
+        ((wants (i.Offer n targets) is branch).1 ∙ rw ends refl) first (rw target refl) (reaches at to values keeps) (brief_entry p (brief.Offer e c)) refl new before after result went

@@ -1,5 +1,5 @@
 -- Steps of processes in place.
-use Rattle.std.specs.Prelude.{◌≡◌, ◌<◌, ◌^◌, ℕ, List, [], ◌∷◌, Option, Some, None, slice_get}
+use Rattle.std.specs.Prelude.{◌≡◌, ◌<◌, ◌^◌, ℕ, List, [], ◌∷◌, ◌++◌, Option, Some, None, slice_get}
 use Rattle.campl_value.specs.Tree.{Tree}
 use Rattle.campl_value.specs.declared.message.Message.TheVariants.{Ends as EndPair, Pick, Word}
 use Rattle.campl_meaning.specs.States as k
@@ -7,12 +7,15 @@ use Rattle.campl_code.specs.Instructions.{Code, Instr, blocks}
 use Rattle.campl_code.specs.Machine.{code_at}
 use Rattle.campl_code_bodies.specs.Kept as kept
 use Rattle.campl_cells.specs.Parts.{Life, Ended, Mail, Proc, Runs, Serves, Tip}
-use Rattle.campl_cells.specs.Steps.{Entry, IsStill}
+use Rattle.campl_cells.specs.Steps as steps
+use Rattle.campl_cells.specs.Steps.{IsStill}
+use Rattle.campl_parts.specs.declared.entry.Entry.{Entry}
+use Rattle.campl_parts.specs.Journal.{Recorded}
 use Rattle.campl_parts.specs.declared.standing.Standing.{Standing}
 use Rattle.campl_parts.specs.Standing.{IsStanding}
 use Rattle.campl_parts.specs.Tables.{procs}
-use Rattle.campl_parts.specs.Views.{entry_of}
 use Rattle.campl_steps.specs.declared.config.Config.{Config}
+use Rattle.campl_steps.specs.declared.made.Changed.{Changed}
 use Rattle.campl_steps.specs.declared.in_place.Tried.{Tried}
 use Rattle.campl_steps.specs.declared.in_place.Tried.TheVariants as t
 use Rattle.campl_steps.specs.Configs.{IsMade, IsSame, changed_ends, drawn, parts}
@@ -57,15 +60,24 @@ pick_in (Some (Word v)) = None
 pick_in (Some (Pick n)) = Some n
 pick_in (Some (EndPair e f)) = None
 
+-- p made this step by the branch i, which bore nothing, and its entry came into the journal
+pub record HasTold (code : Code) (p i : ℕ) (old new : Config) (before after : Recorded) (changed : Changed) : Type 0 where
+  pub entry : Entry
+  pub appended : after.entries ≡ before.entries ++ entry ∷ []
+  pub made : IsMade code p i old (record { entry = entry; changed = changed }) new
+  pub child : entry.child ≡ None
+  pub channel : entry.channel ≡ None
+  pub channel2 : entry.channel2 ≡ None
+
 -- what was tried is a step of p by the branch i, or shows that there is none, or nothing was done
-abbrev pub Tries : Code → (p i : ℕ) → (old new : Config) → Tried → Type 0
-Tries code p i old new (t.Made made) = IsMade code p i old made new
-Tries code p i old new t.Still = IsStill code (drawn old) (parts old) p i × IsSame old new
-Tries code p i old new t.OutOfMemory = IsSame old new
-Tries code p i old new t.Otherwise = new ≡ old
+abbrev pub Tries : Code → (p i : ℕ) → (old new : Config) → (before after : Recorded) → Tried → Type 0
+Tries code p i old new before after (t.Made changed) = HasTold code p i old new before after changed
+Tries code p i old new before after t.Still = IsStill code (drawn old) (parts old) p i × IsSame old new × (after ≡ before)
+Tries code p i old new before after t.OutOfMemory = IsSame old new × (after ≡ before)
+Tries code p i old new before after t.Otherwise = (new ≡ old) × (after ≡ before)
 
 -- what is told of a step at no end, or at one end
-abbrev pub told_of : (p : ℕ) → k.Kind → Option ℕ → Option Mail → Entry
+abbrev pub told_of : (p : ℕ) → k.Kind → Option ℕ → Option Mail → steps.Entry
 told_of p kind end message = record {
   process = p;
   kind = kind;
@@ -78,10 +90,10 @@ told_of p kind end message = record {
   channel2 = None;
 }
 
--- p, of this life, went on as that one, these ends were written, and the entry says so; or nothing was done
-abbrev pub Went : (old new : Config) → (p : ℕ) → (life : Life → Life) → Entry → (changed : List ℕ) → (changes : List (ℕ × Tip)) → Tried → Type 0
-Went old new p life entry changed changes (t.Made made) =
-    (entry_of made.entry ≡ entry) × (changed_ends made.changed ≡ changed) × ((q : Proc) → procs old.processes.items p ≡ Some q → Did old new p (life q.life) None 0 changes)
-Went old new p life entry changed changes t.Still = ⊥
-Went old new p life entry changed changes t.OutOfMemory = IsSame old new
-Went old new p life entry changed changes t.Otherwise = new ≡ old
+-- p, of this life, went on as that one, these ends were written, and the entry came into the journal; or nothing was done
+abbrev pub Went : (old new : Config) → (p : ℕ) → (life : Life → Life) → (told : Entry) → (changed : List ℕ) → (changes : List (ℕ × Tip)) → (before after : Recorded) → Tried → Type 0
+Went old new p life told changed changes before after (t.Made ends) =
+    (after.entries ≡ before.entries ++ told ∷ []) × (changed_ends ends ≡ changed) × ((q : Proc) → procs old.processes.items p ≡ Some q → Did old new p (life q.life) None 0 changes)
+Went old new p life told changed changes before after t.Still = ⊥
+Went old new p life told changed changes before after t.OutOfMemory = IsSame old new × (after ≡ before)
+Went old new p life told changed changes before after t.Otherwise = (new ≡ old) × (after ≡ before)

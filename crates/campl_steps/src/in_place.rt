@@ -1,31 +1,30 @@
 //! Steps of processes in place: of a command whose expressions are evaluated, where the next one is reached straight. Nothing is made
 //! ready on copies then but that next command.
-ghost use Rattle.std.specs.Prelude.{◌≡◌, ◌<◌, ◌^◌, ℕ, [], ◌∷◌, Some, None, IfSome, MatchOption, vec_len};
+ghost use Rattle.std.specs.Prelude.{◌≡◌, ◌<◌, ◌≤◌, ◌+◌, ◌^◌, ℕ, [], ◌∷◌, Some, None, IfSome, MatchOption, vec_len};
 ghost use Rattle.campl_value.specs.declared.message.Message.TheVariants.{Pick, Word};
-ghost use Rattle.campl_meaning.specs.States as k;
 ghost use Rattle.campl_code.specs.Instructions as i;
 ghost use Rattle.campl_code_bodies.specs.Kept.{Values};
 ghost use Rattle.campl_instructions.specs.View.{view_instr};
 ghost use Rattle.campl_cells.specs.Parts.{owner};
 ghost use Rattle.campl_cells.specs.Steps.{sent};
 ghost use Rattle.campl_eval.specs.View.{code_of};
+ghost use Rattle.campl_parts.specs.declared.journal.Brief.TheVariants as b;
+ghost use Rattle.campl_parts.specs.Journal.{brief_entry, weight_of};
 ghost use Rattle.campl_parts.specs.Standing.{kept_by, reached_kept, turned};
 ghost use Rattle.campl_parts.specs.Tables.{IsThere, procs, tips};
-ghost use Rattle.campl_parts.specs.Views.{held_of, kind_of};
+ghost use Rattle.campl_parts.specs.Views.{held_of};
 ghost use Rattle.campl_steps.specs.Doing.{taken};
-ghost use Rattle.campl_steps.specs.InPlace.{IsAt, StandsAt, Tries, Went, pick_in, told_of, word_in};
+ghost use Rattle.campl_steps.specs.InPlace.{IsAt, StandsAt, Tries, Went, pick_in, word_in};
 ghost use Rattle.campl_steps.specs.Readiness.{first_in};
-ghost use Rattle.campl_steps.specs.declared.in_place.Tried.TheVariants as t;
 
 use crate::config::Config;
-use crate::entries::{at_end, at_none};
 use crate::made::Changed;
 use crate::numbers::MOST_STEPS;
 use campl_instructions::Instr;
 use campl_kept::Reached;
 use campl_operands::Variables;
 use campl_parts::{
-    Entry, Journal, Kind, Running, Standing, arrive, owner, reach, reach_with, take, turn_into,
+    Brief, Journal, Running, Standing, arrive, owner, reach, reach_with, take, turn_into,
 };
 use campl_program::Program;
 use campl_value::{Message, Value};
@@ -45,17 +44,22 @@ pub enum Tried {
 }
 
 impl Config {
-    /// Tries the step of a process or service in place.
-    pub fn try_step(
+    /// Tries the step of a process or service in place, and tells it in the journal. It is tried where the expressions of the
+    /// process's command are evaluated, where its next command is reached straight, and where it bears nothing.
+    pub fn step_in_place(
         &mut self,
         alloc: Global,
         program: &Program,
         number: u32,
         journal: &mut Journal,
-    ) -> Tried {
+    ) -> Tried
+        requires room { 1 ≤ journal.old.spare }
+        requires within { weight_of journal.old.entries + 1 < 2 ^ 64 }
+        ensures { (i : ℕ) → Tries (code_of program.now) number i self.old self.new journal.old journal.new result }
+    {
         match self.command(program, number) {
             None => Tried::Otherwise,
-            Some(instr) => self.step_in_place(alloc, program, number, instr, journal),
+            Some(instr) => self.step_at(alloc, program, number, instr, journal),
         }
     }
 
@@ -85,7 +89,7 @@ impl Config {
     }
 
     // Tries the step of a process at this command in place. It is no race.
-    fn step_in_place(
+    fn step_at(
         &mut self,
         alloc: Global,
         program: &Program,
@@ -93,17 +97,28 @@ impl Config {
         instr: &Instr,
         journal: &mut Journal,
     ) -> Tried
-        requires { IsAt (code_of program.now) self.old number (view_instr instr.now) }
-        ensures { (i : ℕ) → Tries (code_of program.now) number i self.old self.new result }
+        requires at { IsAt (code_of program.now) self.old number (view_instr instr.now) }
+        requires room { 1 ≤ journal.old.spare }
+        requires within { weight_of journal.old.entries + 1 < 2 ^ 64 }
+        ensures { (i : ℕ) → Tries (code_of program.now) number i self.old self.new journal.old journal.new result }
     {
         match instr {
             Instr::Put(channel) => self.put(alloc, program, number, *channel, journal),
             Instr::Pick(channel, constructor) => {
                 self.pick(alloc, program, number, *channel, *constructor, journal)
             }
-            Instr::Get(channel, variable) => self.get(alloc, program, number, *channel, *variable, journal),
+            Instr::Get(channel, variable) => self.get(
+                alloc, program, number, *channel, *variable, journal,
+            ),
             Instr::Offer(channel, targets) => {
-                self.offer(alloc, program, number, *channel, targets.as_slice(), journal)
+                self.offer(
+                    alloc,
+                    program,
+                    number,
+                    *channel,
+                    targets.as_slice(),
+                    journal,
+                )
             }
             Instr::Case(decision, first, targets) => {
                 self.case(
@@ -117,15 +132,31 @@ impl Config {
                 )
             }
             Instr::Go(process, channels) => {
-                self.enter(alloc, program, number, *process, channels.as_slice(), journal)
+                self.enter(
+                    alloc,
+                    program,
+                    number,
+                    *process,
+                    channels.as_slice(),
+                    journal,
+                )
             }
             _ => Tried::Otherwise,
         }
     }
 
-    fn put(&mut self, alloc: Global, program: &Program, number: u32, channel: u32, journal: &mut Journal) -> Tried
-        requires { IsAt (code_of program.now) self.old number (i.Put channel) }
-        ensures { (i : ℕ) → Tries (code_of program.now) number i self.old self.new result }
+    fn put(
+        &mut self,
+        alloc: Global,
+        program: &Program,
+        number: u32,
+        channel: u32,
+        journal: &mut Journal,
+    ) -> Tried
+        requires at { IsAt (code_of program.now) self.old number (i.Put channel) }
+        requires room { 1 ≤ journal.old.spare }
+        requires within { weight_of journal.old.entries + 1 < 2 ^ 64 }
+        ensures { (i : ℕ) → Tries (code_of program.now) number i self.old self.new journal.old journal.new result }
     {
         let Some(standing) = self.standing(number) else {
             return Tried::Otherwise;
@@ -145,9 +176,9 @@ impl Config {
         let Some(next) = standing.at.checked_add(1) else {
             return Tried::Otherwise;
         };
-        let (message, told) = (Message::Word(message), Message::Word(told));
+        let (message, told) = (Message::Word(message), Brief::Put(end, told));
         match standing.onward(alloc, program, next, standing.variables) {
-            Ok(Some(reached)) => self.send(number, Kind::Put, end, message, told, reached, journal),
+            Ok(Some(reached)) => self.send(number, end, message, told, reached, journal),
             Ok(None) => Tried::Otherwise,
             Err(_) => Tried::OutOfMemory,
         }
@@ -162,8 +193,10 @@ impl Config {
         constructor: u32,
         journal: &mut Journal,
     ) -> Tried
-        requires { IsAt (code_of program.now) self.old number (i.Pick channel constructor) }
-        ensures { (i : ℕ) → Tries (code_of program.now) number i self.old self.new result }
+        requires at { IsAt (code_of program.now) self.old number (i.Pick channel constructor) }
+        requires room { 1 ≤ journal.old.spare }
+        requires within { weight_of journal.old.entries + 1 < 2 ^ 64 }
+        ensures { (i : ℕ) → Tries (code_of program.now) number i self.old self.new journal.old journal.new result }
     {
         let Some(standing) = self.standing(number) else {
             return Tried::Otherwise;
@@ -174,9 +207,9 @@ impl Config {
         let Some(next) = standing.at.checked_add(1) else {
             return Tried::Otherwise;
         };
-        let (message, told) = (Message::Pick(constructor), Message::Pick(constructor));
+        let (message, told) = (Message::Pick(constructor), Brief::Pick(end, constructor));
         match standing.onward(alloc, program, next, standing.variables) {
-            Ok(Some(reached)) => self.send(number, Kind::Pick, end, message, told, reached, journal),
+            Ok(Some(reached)) => self.send(number, end, message, told, reached, journal),
             Ok(None) => Tried::Otherwise,
             Err(_) => Tried::OutOfMemory,
         }
@@ -187,16 +220,17 @@ impl Config {
     fn send(
         &mut self,
         number: u32,
-        kind: Kind,
         end: u32,
         message: Message,
-        told: Message,
+        told: Brief,
         reached: Reached,
         journal: &mut Journal,
     ) -> Tried
-        requires { IsThere (procs self.old.processes.items number) }
-        ensures { Went self.old self.new number (kept_by (reached_kept reached.at reached.values.items)) (told_of number (kind_of kind) (Some end) (Some told))
-            (owner (tips self.old.ends.items) end ∷ []) (sent (Some (end, message)) (tips self.old.ends.items)) result }
+        requires there { IsThere (procs self.old.processes.items number) }
+        requires room { 1 ≤ journal.old.spare }
+        requires within { weight_of journal.old.entries + 1 < 2 ^ 64 }
+        ensures { Went self.old self.new number (kept_by (reached_kept reached.at reached.values.items)) (brief_entry number told)
+            (owner (tips self.old.ends.items) end ∷ []) (sent (Some (end, message)) (tips self.old.ends.items)) journal.old journal.new result }
     {
         let to = owner(self.ends.as_slice(), end);
         if self.ends.len() <= to as usize {
@@ -208,7 +242,8 @@ impl Config {
         }
         arrive(&mut self.ends, to, message);
         reach(&mut self.processes, number, reached);
-        made(journal, at_end(number, kind, end, Some(told)), Changed::One(to))
+        journal.note(number, told);
+        Tried::Made(Changed::One(to))
     }
 
     fn get(
@@ -220,8 +255,10 @@ impl Config {
         variable: u32,
         journal: &mut Journal,
     ) -> Tried
-        requires { IsAt (code_of program.now) self.old number (i.Get channel variable) }
-        ensures { (i : ℕ) → Tries (code_of program.now) number i self.old self.new result }
+        requires at { IsAt (code_of program.now) self.old number (i.Get channel variable) }
+        requires room { 1 ≤ journal.old.spare }
+        requires within { weight_of journal.old.entries + 1 < 2 ^ 64 }
+        ensures { (i : ℕ) → Tries (code_of program.now) number i self.old self.new journal.old journal.new result }
     {
         let Some(standing) = self.standing(number) else {
             return Tried::Otherwise;
@@ -272,16 +309,19 @@ impl Config {
         reached: Reached,
         journal: &mut Journal,
     ) -> Tried
-        requires { IsThere (procs self.old.processes.items number) }
-        ensures { Went self.old self.new number (kept_by (λ kept. Values reached.at variables reached.values.items)) (told_of number k.Get (Some end) (Some (Word told)))
-            (end ∷ []) (taken (tips self.old.ends.items) end) result }
+        requires there { IsThere (procs self.old.processes.items number) }
+        requires room { 1 ≤ journal.old.spare }
+        requires within { weight_of journal.old.entries + 1 < 2 ^ 64 }
+        ensures { Went self.old self.new number (kept_by (λ kept. Values reached.at variables reached.values.items)) (brief_entry number (b.Get end told))
+            (end ∷ []) (taken (tips self.old.ends.items) end) journal.old journal.new result }
     {
         if self.ends.len() <= end as usize {
             return Tried::Otherwise;
         }
         take(&mut self.ends, end);
         reach_with(&mut self.processes, number, variables, reached);
-        made(journal, at_end(number, Kind::Get, end, Some(Message::Word(told))), Changed::One(end))
+        journal.note(number, Brief::Get(end, told));
+        Tried::Made(Changed::One(end))
     }
 
     fn offer(
@@ -293,8 +333,10 @@ impl Config {
         targets: &[u32],
         journal: &mut Journal,
     ) -> Tried
-        requires { IsAt (code_of program.now) self.old number (i.Offer channel targets.now) }
-        ensures { (i : ℕ) → Tries (code_of program.now) number i self.old self.new result }
+        requires at { IsAt (code_of program.now) self.old number (i.Offer channel targets.now) }
+        requires room { 1 ≤ journal.old.spare }
+        requires within { weight_of journal.old.entries + 1 < 2 ^ 64 }
+        ensures { (i : ℕ) → Tries (code_of program.now) number i self.old self.new journal.old journal.new result }
     {
         let Some(standing) = self.standing(number) else {
             return Tried::Otherwise;
@@ -330,17 +372,27 @@ impl Config {
 
     // Takes a constructor off an end, and tells it; the process goes on at the command that it reached.
     #[inline]
-    fn take_pick(&mut self, number: u32, end: u32, constructor: u32, reached: Reached, journal: &mut Journal) -> Tried
-        requires { IsThere (procs self.old.processes.items number) }
-        ensures { Went self.old self.new number (kept_by (reached_kept reached.at reached.values.items)) (told_of number k.Offer (Some end) (Some (Pick constructor)))
-            (end ∷ []) (taken (tips self.old.ends.items) end) result }
+    fn take_pick(
+        &mut self,
+        number: u32,
+        end: u32,
+        constructor: u32,
+        reached: Reached,
+        journal: &mut Journal,
+    ) -> Tried
+        requires there { IsThere (procs self.old.processes.items number) }
+        requires room { 1 ≤ journal.old.spare }
+        requires within { weight_of journal.old.entries + 1 < 2 ^ 64 }
+        ensures { Went self.old self.new number (kept_by (reached_kept reached.at reached.values.items)) (brief_entry number (b.Offer end constructor))
+            (end ∷ []) (taken (tips self.old.ends.items) end) journal.old journal.new result }
     {
         if self.ends.len() <= end as usize {
             return Tried::Otherwise;
         }
         take(&mut self.ends, end);
         reach(&mut self.processes, number, reached);
-        made(journal, at_end(number, Kind::Offer, end, Some(Message::Pick(constructor))), Changed::One(end))
+        journal.note(number, Brief::Offer(end, constructor));
+        Tried::Made(Changed::One(end))
     }
 
     // A match whose row sets no variable.
@@ -354,8 +406,10 @@ impl Config {
         targets: &[u32],
         journal: &mut Journal,
     ) -> Tried
-        requires { IsAt (code_of program.now) self.old number (i.Case decision first targets.now) }
-        ensures { (i : ℕ) → Tries (code_of program.now) number i self.old self.new result }
+        requires at { IsAt (code_of program.now) self.old number (i.Case decision first targets.now) }
+        requires room { 1 ≤ journal.old.spare }
+        requires within { weight_of journal.old.entries + 1 < 2 ^ 64 }
+        ensures { (i : ℕ) → Tries (code_of program.now) number i self.old self.new journal.old journal.new result }
     {
         let Some(standing) = self.standing(number) else {
             return Tried::Otherwise;
@@ -379,11 +433,14 @@ impl Config {
     // The process goes on at the command that it reached by a match.
     #[inline]
     fn go_to(&mut self, number: u32, reached: Reached, journal: &mut Journal) -> Tried
-        requires { IsThere (procs self.old.processes.items number) }
-        ensures { Went self.old self.new number (kept_by (reached_kept reached.at reached.values.items)) (told_of number k.Case None None) [] [] result }
+        requires there { IsThere (procs self.old.processes.items number) }
+        requires room { 1 ≤ journal.old.spare }
+        requires within { weight_of journal.old.entries + 1 < 2 ^ 64 }
+        ensures { Went self.old self.new number (kept_by (reached_kept reached.at reached.values.items)) (brief_entry number b.Case) [] [] journal.old journal.new result }
     {
         reach(&mut self.processes, number, reached);
-        made(journal, at_none(number, Kind::Case), Changed::Nothing)
+        journal.note(number, Brief::Case);
+        Tried::Made(Changed::Nothing)
     }
 
     fn enter(
@@ -395,8 +452,10 @@ impl Config {
         channels: &[u32],
         journal: &mut Journal,
     ) -> Tried
-        requires { IsAt (code_of program.now) self.old number (i.Go process channels.now) }
-        ensures { (i : ℕ) → Tries (code_of program.now) number i self.old self.new result }
+        requires at { IsAt (code_of program.now) self.old number (i.Go process channels.now) }
+        requires room { 1 ≤ journal.old.spare }
+        requires within { weight_of journal.old.entries + 1 < 2 ^ 64 }
+        ensures { (i : ℕ) → Tries (code_of program.now) number i self.old self.new journal.old journal.new result }
     {
         let Some(standing) = self.standing(number) else {
             return Tried::Otherwise;
@@ -415,20 +474,15 @@ impl Config {
     // The process goes on as that one by a call.
     #[inline]
     fn turn(&mut self, number: u32, running: Running, journal: &mut Journal) -> Tried
-        requires { IsThere (procs self.old.processes.items number) }
-        ensures { Went self.old self.new number (turned (held_of running)) (told_of number k.Call None None) [] [] result }
+        requires there { IsThere (procs self.old.processes.items number) }
+        requires room { 1 ≤ journal.old.spare }
+        requires within { weight_of journal.old.entries + 1 < 2 ^ 64 }
+        ensures { Went self.old self.new number (turned (held_of running)) (brief_entry number b.Call) [] [] journal.old journal.new result }
     {
         turn_into(&mut self.processes, number, running);
-        made(journal, at_none(number, Kind::Call), Changed::Nothing)
+        journal.note(number, Brief::Call);
+        Tried::Made(Changed::Nothing)
     }
-}
-
-#[inline]
-fn made(journal: &mut Journal, entry: Entry, changed: Changed) -> Tried
-    ensures { result ≡ t.Made (record { entry = entry; changed = changed }) }
-{
-    journal.record(entry);
-    Tried::Made(changed)
 }
 
 // The value, where there is one alone.

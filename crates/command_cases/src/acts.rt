@@ -21,7 +21,7 @@ fn summary_of(report: Report) -> Summary {
         status: report.status,
         ended: report.ended,
         steps: report.steps,
-        entries: report.journal.entries().len(),
+        entries: report.journal.len(),
     }
 }
 

@@ -5,7 +5,7 @@ use crate::calls::print_calls;
 use crate::seen::print_seen;
 use crate::told::print_entry;
 use anyhow::{Result, bail};
-use campl_parts::Entry;
+use campl_parts::Journal;
 use campl_program::Program;
 use campl_solo::Solo;
 use std::alloc::{AllocError, Global};
@@ -23,9 +23,10 @@ pub fn print_turns(
 ) -> Result<()>
     requires { IsRunning program.now solo.old }
 {
+    let mut journal = Journal::new(alloc);
     print_seen(alloc, program, &solo.config, 0, out)?;
     let mut steps = 0;
-    while steps < STEPS && print_turn(alloc, program, solo, out)? {
+    while steps < STEPS && print_turn(alloc, program, solo, &mut journal, out)? {
         steps += 1;
         print_seen(alloc, program, &solo.config, steps, out)?;
     }
@@ -37,13 +38,15 @@ fn print_turn(
     alloc: Global,
     program: &Program,
     solo: &mut Solo,
+    journal: &mut Journal,
     out: &mut impl Write,
 ) -> Result<bool>
     requires { IsRunning program.now solo.old }
     ensures { IsRunning program.now solo.new }
 {
-    match turn(alloc, program, solo) {
-        Ok(entry) => print_if(alloc, entry, out),
+    match turn(alloc, program, solo, journal) {
+        Ok(true) => print_last(alloc, journal, out),
+        Ok(false) => Ok(false),
         Err(_) => bail!("memory is out"),
     }
 }
@@ -52,18 +55,25 @@ fn turn(
     alloc: Global,
     program: &Program,
     solo: &mut Solo,
-) -> std::result::Result<Option<Entry>, AllocError>
+    journal: &mut Journal,
+) -> std::result::Result<bool, AllocError>
     requires { IsRunning program.now solo.old }
     ensures { IsRunning program.now solo.new }
 {
-    solo.step(alloc, program)
+    if journal.weight() > u64::from(STEPS) {
+        return Err(AllocError);
+    }
+    solo.step(alloc, program, journal)
 }
 
-// Prints a step, if there was one.
-fn print_if(alloc: Global, entry: Option<Entry>, out: &mut impl Write) -> Result<bool> {
-    match entry {
+// Prints the step that was made last.
+fn print_last(alloc: Global, journal: &Journal, out: &mut impl Write) -> Result<bool> {
+    let Some(last) = journal.len().checked_sub(1) else {
+        bail!("no step was made");
+    };
+    match journal.entry(last)? {
         Some(entry) => print_entry(alloc, &entry, out)?,
-        None => return Ok(false),
+        None => bail!("no step was made"),
     }
     Ok(true)
 }

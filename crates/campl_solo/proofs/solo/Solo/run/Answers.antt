@@ -15,8 +15,8 @@ loop-self-init c = record {
   within = c.requires.within;
 }
 
-pub write_down-requires-clause-run : goal.write_down-requires-clause-run
-write_down-requires-clause-run c =
+pub step-requires-clause-run : goal.step-requires-clause-run
+step-requires-clause-run c =
     let (source, n, x, run) = c.requires.run in
     let g = c.loop-self.invariant.grew source n x run in
     (source, g.goes.naming, g.goes.last, g.goes.is)
@@ -25,27 +25,27 @@ pub loop-self-smaller : goal.loop-self-smaller
 loop-self-smaller c =
     let (source, n, x, run) = c.requires.run in
     let g = c.loop-self.invariant.grew source n x run in
-    let h : (entry : Entry) × (c.write_down.new.journal.entries ≡ c.loop-self.journal.entries ++ entry ∷ []) × HasStepped source (code_of c.args.program.now) g.goes.naming g.goes.last c.loop-self.self entry c.write_down.new.self =
+    let h : (entry : Entry) × (c.step.new.journal.entries ≡ c.loop-self.journal.entries ++ entry ∷ []) × HasStepped source (code_of c.args.program.now) g.goes.naming g.goes.last c.loop-self.self entry c.step.new.self =
     rw c.in-Ok-true.field-0-test at c.in-Ok-true.ensures source g.goes.naming g.goes.last g.goes.is in
-    let one = weight-written c.loop-self.journal.entries c.write_down.new.journal.entries h.0 h.1 h.2.one in
+    let one = weight-written c.loop-self.journal.entries c.step.new.journal.entries h.0 h.1 h.2.one in
     let less = c.loop-self-test.true in
     let is = c.weight.ensures in
-    let r : c.args.budget - weight_of c.write_down.new.journal.entries < c.args.budget - weight_of c.loop-self.journal.entries = omega (arith, one, less, is) in
+    let r : c.args.budget - weight_of c.step.new.journal.entries < c.args.budget - weight_of c.loop-self.journal.entries = omega (arith, one, less, is) in
     r
 
 pub loop-self-preserved : goal.loop-self-preserved
 loop-self-preserved c = record {
   grew = λ source n x run.
       let g = c.loop-self.invariant.grew source n x run in
-      let h : (entry : Entry) × (c.write_down.new.journal.entries ≡ c.loop-self.journal.entries ++ entry ∷ []) × HasStepped source (code_of c.args.program.now) g.goes.naming g.goes.last c.loop-self.self entry c.write_down.new.self =
+      let h : (entry : Entry) × (c.step.new.journal.entries ≡ c.loop-self.journal.entries ++ entry ∷ []) × HasStepped source (code_of c.args.program.now) g.goes.naming g.goes.last c.loop-self.self entry c.step.new.self =
       rw c.in-Ok-true.field-0-test at c.in-Ok-true.ensures source g.goes.naming g.goes.last g.goes.is in
-      written-more source (code_of c.args.program.now) n x c.args.self.now c.loop-self.self c.write_down.new.self c.args.journal.now.entries c.loop-self.journal.entries c.write_down.new.journal.entries h.0 g h.1 h.2;
+      written-more source (code_of c.args.program.now) n x c.args.self.now c.loop-self.self c.step.new.self c.args.journal.now.entries c.loop-self.journal.entries c.step.new.journal.entries h.0 g h.1 h.2;
   within =
       let (source, n, x, run) = c.requires.run in
       let g = c.loop-self.invariant.grew source n x run in
-      let h : (entry : Entry) × (c.write_down.new.journal.entries ≡ c.loop-self.journal.entries ++ entry ∷ []) × HasStepped source (code_of c.args.program.now) g.goes.naming g.goes.last c.loop-self.self entry c.write_down.new.self =
+      let h : (entry : Entry) × (c.step.new.journal.entries ≡ c.loop-self.journal.entries ++ entry ∷ []) × HasStepped source (code_of c.args.program.now) g.goes.naming g.goes.last c.loop-self.self entry c.step.new.self =
       rw c.in-Ok-true.field-0-test at c.in-Ok-true.ensures source g.goes.naming g.goes.last g.goes.is in
-      let one = weight-written c.loop-self.journal.entries c.write_down.new.journal.entries h.0 h.1 h.2.one in
+      let one = weight-written c.loop-self.journal.entries c.step.new.journal.entries h.0 h.1 h.2.one in
       let less = c.loop-self-test.true in
       let is = c.weight.ensures in
       omega (arith, one, less, is);
@@ -55,17 +55,17 @@ pub returns-in-Ok-false : goal.returns-in-Ok-false
 returns-in-Ok-false c source n x run =
     let code = code_of c.args.program.now in
     let g = c.loop-self.invariant.grew source n x run in
-    let new = c.write_down.new.self in
-    let h : (c.write_down.new.journal.entries ≡ c.loop-self.journal.entries) × Stays source code g.goes.naming g.goes.last c.loop-self.self new × Rest code new =
+    let new = c.step.new.self in
+    let h : (c.step.new.journal.entries ≡ c.loop-self.journal.entries) × Stays source code g.goes.naming g.goes.last c.loop-self.self new × Rest code new =
     rw c.in-Ok-false.field-0-test at c.in-Ok-false.ensures source g.goes.naming g.goes.last g.goes.is in
-    stopped-at source code n x c.args.self.now c.loop-self.self new c.args.journal.now.entries c.loop-self.journal.entries c.write_down.new.journal.entries c.args.budget (Ok Rested) g h.0 c.loop-self.invariant.within h.1 h.2
+    stopped-at source code n x c.args.self.now c.loop-self.self new c.args.journal.now.entries c.loop-self.journal.entries c.step.new.journal.entries c.args.budget (Ok Rested) g h.0 c.loop-self.invariant.within h.1 h.2
 
 pub returns-in-Err : goal.returns-in-Err
 returns-in-Err c source n x run =
     let code = code_of c.args.program.now in
     let g = c.loop-self.invariant.grew source n x run in
     let h = c.in-Err.ensures source g.goes.naming g.goes.last g.goes.is in
-    stopped-at source code n x c.args.self.now c.loop-self.self c.write_down.new.self c.args.journal.now.entries c.loop-self.journal.entries c.write_down.new.journal.entries c.args.budget (Err c.in-Err.error) g h.0 c.loop-self.invariant.within h.1 tt
+    stopped-at source code n x c.args.self.now c.loop-self.self c.step.new.self c.args.journal.now.entries c.loop-self.journal.entries c.step.new.journal.entries c.args.budget (Err c.in-Err.error) g h.0 c.loop-self.invariant.within h.1 tt
 
 pub has_step-requires : goal.has_step-requires
 has_step-requires c =
