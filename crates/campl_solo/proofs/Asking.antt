@@ -7,6 +7,7 @@ use Rattle.campl_code.specs.Instructions.{Code}
 use Rattle.campl_cells.specs.Parts.{Parts}
 use Rattle.campl_cells.specs.Stands.{Naming}
 use Rattle.campl_machine.specs.Names.{Who}
+use Rattle.campl_parts.specs.declared.entry.Entry.{Entry}
 use Rattle.campl_parts.specs.Journal.{Recorded}
 use Rattle.campl_steps.specs.declared.config.Config.{Config}
 use Rattle.campl_steps.specs.declared.made.Changed.{Changed}
@@ -23,6 +24,10 @@ use Rattle.campl_solo.proofs.Stepping.{FitsAs, is-same, stays-on, stepped, stepp
 
 pub same-as : (old new : Config) → new ≡ old → IsSame old new
 same-as old new e = subst (IsSame old) (sym e) (is-same old)
+
+-- one more entry behind those that there were
+pub appended-on : (first before after : List Entry) (entry : Entry) → before ≡ first → after ≡ before ++ entry ∷ [] → after ≡ first ++ entry ∷ []
+appended-on first before after entry e f = f ∙ ap (λ (l : List Entry). l ++ entry ∷ []) e
 
 -- with the same flags up it is the first still
 pub first-alike : (n : Naming) (old mid : Solo) (p : ℕ) → ((i : ℕ) → is_flagged mid.schedule.board.flags.items i ≡ is_flagged old.schedule.board.flags.items i) → IsFirst n old p → IsFirst n mid p
@@ -47,16 +52,16 @@ module _ (source : Program) (code : Code) (n : Naming) (c : Configuration) (old 
       → ((code : Code) (m : Parts) (who : ℕ → Who) (ps es : ℕ) → Fits code m who ps es (changed_ends changed) s → Fits code m who ps es [] last.schedule)
       → Asked source code n c old last before after (Ok true)
   told-stepped run p first s fits flags room new before after changed told last is woken = (
-      told.entry,
-      told.appended,
-      stepped source code n c old run p first s fits flags room new (record { entry = told.entry; changed = changed })
-      (record { branch = 0; is = told.made; first = λ i l. absurd (let z : ⊥ = omega (arith, l) in z) }) (steps_of ((parts new).process p)) refl s
-      (grown-bare p (steps_of ((parts new).process p)) told.entry.child told.entry.channel told.entry.channel2 s told.child told.channel told.channel2) last is woken,
-    )
+    told.entry,
+    told.appended,
+    stepped source code n c old run p first s fits flags room new (record { entry = told.entry; changed = changed })
+        (record { branch = 0; is = told.made; first = λ i l. absurd (let z : ⊥ = omega (arith, l) in z) }) (steps_of ((parts new).process p)) refl s
+        (grown-bare p (steps_of ((parts new).process p)) told.entry.child told.entry.channel told.entry.channel2 s told.child told.channel told.channel2) last is woken,
+  )
 
   -- and where it stood still, what is asked then answers for it
   pub asked-on : (mid : Solo) → Stays source code n c old mid → flags_up mid.schedule.board.flags.items ≡ flags_up old.schedule.board.flags.items → (new : Solo) (first before after : Recorded) → before ≡ first → (r : Result Bool AllocError)
       → Asked source code n c mid new before after r → Asked source code n c old new first after r
-  asked-on mid s up new first before after e (Ok true) h = (h.0, h.1 ∙ ap (λ (j : Recorded). j.entries ++ h.0 ∷ []) e, stepped-on source code n c old mid s new h.0 h.2)
+  asked-on mid s up new first before after e (Ok true) h = (h.0, appended-on first.entries before.entries after.entries h.0 (ap (λ (j : Recorded). j.entries) e) h.1, stepped-on source code n c old mid s new h.0 h.2)
   asked-on mid s up new first before after e (Ok false) h = (record { stays = stays-on source code n c old mid s new h.0.stays; fewer = let f = h.0.fewer in omega (arith, f, up) }, h.1 ∙ e)
   asked-on mid s up new first before after e (Err error) h = (stays-on source code n c old mid s new h.0, h.1 ∙ e)

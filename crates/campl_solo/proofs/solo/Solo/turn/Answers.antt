@@ -45,9 +45,11 @@ returns-in-Ok-None c source n x run first =
     let old = c.args.self.now in
     let fits = fits-of code n [] old run.tables in
     let h : ((i : ℕ) → i < c.in-Ok.count → IsStill code (drawn old.config) (parts old.config) c.args.number i) × IsSame old.config c.first_step.new.config = rw c.in-Ok-None.field-0-is at c.in-Ok-None.ensures in
-    let r = c.rest.ensures in
-    (lies-down source code n x old run c.args.number first old.schedule fits (λ i. refl) (record { config = c.first_step.new.config; schedule = c.rest.new.schedule }) h.1
-    c.in-Ok.count c.in-Ok.ensures.some c.in-Ok.ensures.others h.0 (r.scheduled n.who) r.order r.flags r.waited, refl)
+    let r = c.rest.ensures in (
+      lies-down source code n x old run c.args.number first old.schedule fits (λ i. refl) (record { config = c.first_step.new.config; schedule = c.rest.new.schedule }) h.1
+          c.in-Ok.count c.in-Ok.ensures.some c.in-Ok.ensures.others h.0 (r.scheduled n.who) r.order r.flags r.waited,
+      refl,
+    )
 
 pub record-requires-clause-within : goal.record-requires-clause-within
 record-requires-clause-within c =
@@ -69,9 +71,12 @@ returns-in-Ok-Some c source n x run first =
     let old = c.args.self.now in
     let fits = fits-of code n [] old run.tables in
     let made = c.in-Ok-Some.made in
-    let turned : HasTurned code c.args.number old.config made c.first_step.new.config = rw c.in-Ok-Some.field-0-is at c.in-Ok-Some.ensures in
-    (made.entry, c.record.ensures, stepped source code n x old run c.args.number first old.schedule fits (λ i. refl) c.requires.tables c.first_step.new.config made turned c.steps-born.result c.steps-born.ensures
-    c.grow.new.schedule c.grow.ensures (record { config = c.first_step.new.config; schedule = c.wake_all.new.schedule }) refl c.wake_all.ensures)
+    let turned : HasTurned code c.args.number old.config made c.first_step.new.config = rw c.in-Ok-Some.field-0-is at c.in-Ok-Some.ensures in (
+      made.entry,
+      c.record.ensures,
+      stepped source code n x old run c.args.number first old.schedule fits (λ i. refl) c.requires.tables c.first_step.new.config made turned c.steps-born.result c.steps-born.ensures
+          c.grow.new.schedule c.grow.ensures (record { config = c.first_step.new.config; schedule = c.wake_all.new.schedule }) refl c.wake_all.ensures,
+    )
 
 pub returns-in-Err-first_step : goal.returns-in-Err-first_step
 returns-in-Err-first_step c source n x run first =
