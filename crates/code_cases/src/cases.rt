@@ -5,6 +5,7 @@ use crate::rules::print_code;
 use crate::source::world_of;
 use anyhow::{Context, Result};
 use campl_gen::generate;
+use campl_instructions::RawCode;
 use std::alloc::Global;
 use std::io::Write;
 
@@ -32,8 +33,28 @@ pub fn print_cases(alloc: Global, kind: Kind, text: &str, out: &mut impl Write) 
 
 fn print_case(alloc: Global, kind: Kind, lines: &str, out: &mut impl Write) -> Result<()> {
     match kind {
-        Kind::Rows => print_rows(alloc, &world_of(alloc, lines)?, out),
-        Kind::Code => print_code(alloc, &code_of(alloc, lines)?, out),
-        Kind::Source => print_code(alloc, &generate(alloc, &world_of(alloc, lines)?)?, out),
+        Kind::Rows => print_rows_of(alloc, lines, out),
+        Kind::Code => print_listed(alloc, lines, out),
+        Kind::Source => print_generated(alloc, lines, out),
     }
+}
+
+fn print_rows_of(alloc: Global, source: &str, out: &mut impl Write) -> Result<()> {
+    let world = world_of(alloc, source)?;
+    print_rows(alloc, &world, out)
+}
+
+fn print_listed(alloc: Global, lines: &str, out: &mut impl Write) -> Result<()> {
+    let code = code_of(alloc, lines)?;
+    print_code(alloc, &code, out)
+}
+
+fn print_generated(alloc: Global, source: &str, out: &mut impl Write) -> Result<()> {
+    let code = generated(alloc, source)?;
+    print_code(alloc, &code, out)
+}
+
+fn generated(alloc: Global, source: &str) -> Result<RawCode> {
+    let world = world_of(alloc, source)?;
+    Ok(generate(alloc, &world)?)
 }
