@@ -10,6 +10,9 @@ use std::alloc::{AllocError, Global};
 use std::collections::VecDeque;
 use std::mem;
 
+// For how many messages an end without any keeps its memory.
+const KEPT_ROOM: usize = 8;
+
 /// An end: the other end of its channel, and what that end sent and this one hasn't taken, the oldest first.
 #[derive(Drop)]
 pub struct EndPart {
@@ -45,12 +48,16 @@ impl EndPart {
         self.inbox.push_back_reserved(message);
     }
 
-    /// Takes the first message off.
+    /// Takes the first message off. Where it was the last of many, their memory goes back: others can have it then.
     pub fn take(&mut self) -> Option<Message>
         ensures peer { self.new.peer ≡ self.old.peer }
         ensures rest { self.new.inbox.items ≡ drop 1 self.old.inbox.items }
     {
-        self.inbox.pop_front()
+        let first = self.inbox.pop_front();
+        if self.inbox.is_empty() && self.inbox.capacity() > KEPT_ROOM {
+            self.inbox = VecDeque::new(*self.inbox.allocator());
+        }
+        first
     }
 
     /// Loses its partner, and hands out the messages that lay here.

@@ -15,10 +15,10 @@ use Rattle.campl_steps.specs.Configs.{IsMade, IsSame, changed_ends, more, parts,
 use Rattle.campl_steps.specs.InPlace.{HasTold}
 use Rattle.campl_order.specs.declared.schedule.Schedule.{Schedule}
 use Rattle.campl_order.specs.Boards.{IsFirstFlagged, is_flagged}
-use Rattle.campl_order.specs.Waiting.{HasRoom, IsScheduled}
+use Rattle.campl_order.specs.Waiting.{IsScheduled}
 use Rattle.campl_solo.specs.declared.solo.Solo.{Solo}
 use Rattle.campl_solo.specs.Asking.{Asked, HasTurned, IsFirst, flags_up}
-use Rattle.campl_solo.specs.Fits.{Fits, Grown, MayBear, nobody}
+use Rattle.campl_solo.specs.Fits.{Fits, Grown, HasFlagFor, MayBear, nobody}
 use Rattle.campl_solo.specs.Solos.{HasStepped, IsRun, Stays}
 use Rattle.campl_solo.proofs.Stepping.{FitsAs, is-same, stays-on, stepped, stepped-on}
 
@@ -48,14 +48,15 @@ grown-bare p born child channel channel2 s e f g =
 module _ (source : Program) (code : Code) (n : Naming) (c : Configuration) (old : Solo) where
   -- a step in place is one of the first
   pub told-stepped : (run : IsRun source code n c old) (p : ℕ) (first : IsFirst n old p) (s : Schedule) → FitsAs code n old.config s → ((i : ℕ) → is_flagged s.board.flags.items i ≡ is_flagged old.schedule.board.flags.items i)
-      → HasRoom s → (new : Config) (before after : Recorded) (changed : Changed) → HasTold code p 0 old.config new before after changed → (last : Solo) → last.config ≡ new
+      → (new : Config) (before after : Recorded) (changed : Changed) → HasTold code p 0 old.config new before after changed → (last : Solo) → last.config ≡ new
       → ((code : Code) (m : Parts) (who : ℕ → Who) (ps es : ℕ) → Fits code m who ps es (changed_ends changed) s → Fits code m who ps es [] last.schedule)
       → Asked source code n c old last before after (Ok true)
-  told-stepped run p first s fits flags room new before after changed told last is woken = (
+  told-stepped run p first s fits flags new before after changed told last is woken = (
     told.entry,
     told.appended,
-    stepped source code n c old run p first s fits flags room new (record { entry = told.entry; changed = changed })
-        (record { branch = 0; is = told.made; first = λ i l. absurd (let z : ⊥ = omega (arith, l) in z) }) (steps_of ((parts new).process p)) refl s
+    stepped source code n c old run p first s fits flags new (record { entry = told.entry; changed = changed })
+        (record { branch = 0; is = told.made; first = λ i l. absurd (let z : ⊥ = omega (arith, l) in z) }) (steps_of ((parts new).process p)) refl
+        (subst (λ (k : Option ℕ). HasFlagFor k s) (sym told.child) tt) s
         (grown-bare p (steps_of ((parts new).process p)) told.entry.child told.entry.channel told.entry.channel2 s told.child told.channel told.channel2) last is woken,
   )
 

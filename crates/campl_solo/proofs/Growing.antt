@@ -24,7 +24,7 @@ use Rattle.campl_order.specs.declared.schedule.Schedule.{Schedule}
 use Rattle.campl_order.specs.Boards.{is_flagged}
 use Rattle.campl_order.specs.Waiting.{IsAmong, waiter}
 use Rattle.campl_order.proofs.Alike.{scheduled-alike}
-use Rattle.campl_solo.specs.Fits.{Fits, Grown, MayBear, flags_borne, nobody}
+use Rattle.campl_solo.specs.Fits.{HasFlagFor, Fits, Grown, MayBear, flags_borne, nobody}
 use Rattle.campl_solo.proofs.Drawing.{below}
 
 -- Ends that one waits on are there
@@ -56,10 +56,10 @@ nobody-length None = refl
 nobody-length (Some c) = refl
 
 -- who isn't flagged was there before, isn't the one that stepped, and wasn't flagged
-old-unflagged : (child : Option ℕ) (count p i : ℕ) (flags : List Bool) → p < count → count < length flags → is_flagged flags p ≡ true → i < count + more child 1 →
-    is_flagged (flags_borne child count flags) i ≡ false → (i < count) × (i ≢ p) × (is_flagged flags i ≡ false)
-old-unflagged None count p i flags hp room up l h = (omega (arith, l), (λ e. true≢false (sym up ∙ (ap (is_flagged flags) (sym e) ∙ h))), h)
-old-unflagged (Some k) count p i flags hp room up l h = elim (same i count) [
+old-unflagged : (child : Option ℕ) (p i : ℕ) (s : Schedule) → p < length s.order.ranks.items → HasFlagFor child s → is_flagged s.board.flags.items p ≡ true → i < length s.order.ranks.items + more child 1 →
+    is_flagged (flags_borne child (length s.order.ranks.items) s.board.flags.items) i ≡ false → (i < length s.order.ranks.items) × (i ≢ p) × (is_flagged s.board.flags.items i ≡ false)
+old-unflagged None p i s hp room up l h = (omega (arith, l), (λ e. true≢false (sym up ∙ (ap (is_flagged s.board.flags.items) (sym e) ∙ h))), h)
+old-unflagged (Some k) p i s hp room up l h = let count = length s.order.ranks.items in let flags = s.board.flags.items in elim (same i count) [
   | inl e ↦ absurd (true≢false (sym (get_or-set_same flags count true false room) ∙ (ap (is_flagged (set flags count true)) (sym e) ∙ h)))
   | inr ne ↦
       let before : is_flagged flags i ≡ false = sym (get_or-set_other flags count i true false ne) ∙ h in
@@ -73,7 +73,7 @@ among-same (x ∷ es) e (inr h) = inr (among-same es e h)
 
 module _ (code : Code) (n n2 : Naming) (old new : Config) (p b : ℕ) (made : Made) (s s2 : Schedule) (wired : Wired (parts old))
     (fits : Fits code (parts old) n.who (length old.processes.items) (length old.ends.items) [] s) (is : IsMade code p b old made new) (grows : Grows n n2 (parts old))
-    (up : is_flagged s.board.flags.items p ≡ true) (room : length s.order.ranks.items < length s.board.flags.items)
+    (up : is_flagged s.board.flags.items p ≡ true) (room : HasFlagFor made.entry.child s)
     (born : ℕ) (grown : Grown p born made.entry.child made.entry.channel made.entry.channel2 s s2) (bears : MayBear n2.who p born made.entry.child s) where
   was : (i : ℕ) → i < length new.processes.items → is_flagged s2.board.flags.items i ≡ false →
       (i < length s.order.ranks.items) × (i ≢ p) × (is_flagged s.board.flags.items i ≡ false)
@@ -81,7 +81,7 @@ module _ (code : Code) (n n2 : Naming) (old new : Config) (p b : ℕ) (made : Ma
       let count = fits.processes_are in
       let more = is.processes in
       let inside = fits.scheduled.within.flagged p up in
-      old-unflagged made.entry.child (length s.order.ranks.items) p i s.board.flags.items inside room up (omega (arith, l, count, more)) (sym (ap (λ (l : List Bool). is_flagged l i) grown.flags) ∙ h)
+      old-unflagged made.entry.child p i s inside room up (omega (arith, l, count, more)) (sym (ap (λ (l : List Bool). is_flagged l i) grown.flags) ∙ h)
 
   stays : (i : ℕ) → i < length old.processes.items → i ≢ p → (parts new).process i ≡ (parts old).process i
   stays i l ne =

@@ -1,5 +1,5 @@
 -- A run stands where it stood, or the first of its flagged has made a step.
-use Rattle.std.proofs.Common.{◌≡◌, ◌≤◌, ◌<◌, inl, inr, ℕ, suc, true, false, List, [], Option, None, IsSome, Ok, length, set, option_map, refl, sym, ap, subst, ◌∙◌, arith, true≢false}
+use Rattle.std.proofs.Common.{◌≡◌, ◌≤◌, ◌<◌, inl, inr, ℕ, suc, true, false, List, [], Option, Some, None, IsSome, Ok, length, set, option_map, refl, sym, ap, subst, ◌∙◌, arith, true≢false}
 use Rattle.std.proofs.lemmas.Option.{slice_get_past}
 use Rattle.campl_machine.specs.Names.{Service, Who}
 use Rattle.campl_tree.specs.Plain.Decl.{Program}
@@ -33,7 +33,7 @@ use Rattle.campl_order.specs.Waiting.{HasRoom, IsScheduled, waiter}
 use Rattle.campl_order.proofs.Alike.{scheduled-alike}
 use Rattle.campl_solo.specs.declared.solo.Solo.{Solo}
 use Rattle.campl_solo.specs.Asking.{HasTurned, IsFirst, LiesDown, flags_up}
-use Rattle.campl_solo.specs.Fits.{Fits, Grown, HasWaited, MayBear}
+use Rattle.campl_solo.specs.Fits.{HasFlagFor, Fits, Grown, HasWaited, MayBear}
 use Rattle.campl_solo.specs.Solos.{AreTables, HasStepped, IsRun, Rest, Stays}
 use Rattle.campl_solo.proofs.Bearing.{fresh, may-bear, weighs-one}
 use Rattle.campl_solo.proofs.Drawing.{HasBranches, below, rests-all, rests-gone}
@@ -135,7 +135,7 @@ module _ (source : Program) (code : Code) (n : Naming) (c : Configuration) (old 
                 omega (arith, l, k, h);
           }
 
-      module _ (room : HasRoom s) (new : Config) (made : Made) (turned : HasTurned code p old.config made new) where
+      module _ (new : Config) (made : Made) (turned : HasTurned code p old.config made new) where
         abbrev turn : Turn
         turn = record { process = p; branch = turned.branch; drawn = drawn old.config }
 
@@ -167,12 +167,12 @@ module _ (source : Program) (code : Code) (n : Naming) (c : Configuration) (old 
           )
 
           -- it has made a step
-          pub stepped : (s2 : Schedule) → Grown p born made.entry.child made.entry.channel made.entry.channel2 s s2 → (last : Solo) → last.config ≡ new →
+          pub stepped : HasFlagFor made.entry.child s → (s2 : Schedule) → Grown p born made.entry.child made.entry.channel made.entry.channel2 s s2 → (last : Solo) → last.config ≡ new →
               ((code : Code) (m : Parts) (who : ℕ → Who) (ps es : ℕ) → Fits code m who ps es (changed_ends made.changed) s2 → Fits code m who ps es [] last.schedule) → HasStepped source code n c old made.entry last
-          stepped s2 grown last is woken =
+          stepped room s2 grown last is woken =
               let fit : FitsAs code means.naming new last.schedule =
               woken code (parts new) means.naming.who (length new.processes.items) (length new.ends.items)
-              (grown-fits code n means.naming old.config new p turned.branch made s s2 wired fits turned.is means.grows up (let f = room.flag in omega (arith, f)) born grown bears) in
+              (grown-fits code n means.naming old.config new p turned.branch made s s2 wired fits turned.is means.grows up room born grown bears) in
               subst (λ (x : Solo). HasStepped source code n c old made.entry x) (solo-is last is) (record {
                 turn = turn;
                 means = means;
@@ -196,6 +196,11 @@ module _ (source : Program) (code : Code) (n : Naming) (c : Configuration) (old 
                     subst (λ (m : Parts). IsSome (m.process (suc k))) (sym z.parts) (written-keeps (peopled (drawn old.config) p z.process z.life z.child) (parts old.config).process (suc k) here.0),
                     means.grows.who (suc k) here.0 ∙ here.1,
                   )
+
+-- where there is room for all, there is for a flag
+pub flag-for : (child : Option ℕ) (s : Schedule) → HasRoom s → HasFlagFor child s
+flag-for None s room = tt
+flag-for (Some k) s room = let f = room.flag in omega (arith, f)
 
 -- who has a step may reduce
 pub enabled : (source : Program) (code : Code) (n : Naming) (c : Configuration) (old : Solo) → IsRun source code n c old → (p i : ℕ) → CanStep code (drawn old.config) (parts old.config) p i (Ok true) → IsEnabled (world_of source) c

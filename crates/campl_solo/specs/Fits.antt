@@ -54,6 +54,11 @@ abbrev pub MayBear : (ℕ → Who) → (parent born : ℕ) → (child : Option �
 MayBear names parent born None s = Unit {0}
 MayBear names parent born (Some k) s = CanBear names parent born s
 
+-- where a child is borne, there is room for its flag
+abbrev pub HasFlagFor : (child : Option ℕ) → Schedule → Type 0
+HasFlagFor None s = Unit {0}
+HasFlagFor (Some k) s = length s.order.ranks.items < length s.board.flags.items
+
 -- the tables have grown by what a step bore
 pub record Grown (parent born : ℕ) (child channel channel2 : Option ℕ) (old new : Schedule) : Type 0 where
   pub scheduled : (names : ℕ → Who) → IsScheduled names old → MayBear names parent born child old → IsScheduled names new

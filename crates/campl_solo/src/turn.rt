@@ -5,7 +5,6 @@ ghost use Rattle.campl_meaning.specs.Reductions.{Configuration};
 ghost use Rattle.campl_cells.specs.Stands.{Naming, Wired};
 ghost use Rattle.campl_eval.specs.View.{code_of};
 ghost use Rattle.campl_parts.specs.Journal.{weight_of};
-ghost use Rattle.campl_order.specs.Waiting.{HasRoom};
 ghost use Rattle.campl_steps.specs.Configs as configs;
 ghost use Rattle.campl_steps.specs.Configs.{parts};
 ghost use Rattle.campl_solo.specs.Asking.{Asked, HasBranch, IsFirst, Looked, Turned};
@@ -33,10 +32,6 @@ impl Solo {
         ensures { (source : Source) (n : Naming) (c : Configuration) → IsRun source (code_of program.now) n c self.old → IsFirst n self.old number
             → Asked source (code_of program.now) n c self.old self.new journal.old journal.new result }
     {
-        match self.schedule.make_room(alloc) {
-            Ok(()) => {}
-            Err(error) => return Err(error),
-        }
         match self.config.step_in_place(alloc, program, number, journal) {
             Tried::Made(changed) => {
                 wake_all(&mut self.schedule, changed);
@@ -48,7 +43,7 @@ impl Solo {
         }
     }
 
-    // The same on copies, where there is room in the tables.
+    // The same on copies.
     fn turn(
         &mut self,
         alloc: Global,
@@ -57,12 +52,15 @@ impl Solo {
         journal: &mut Journal,
     ) -> Result<bool, AllocError>
         requires run { (source : Source) × (n : Naming) × (c : Configuration) × IsRun source (code_of program.now) n c self.old × IsFirst n self.old number }
-        requires tables { HasRoom self.old.schedule }
         requires room { (1 ≤ journal.old.spare) × (1 ≤ journal.old.spare_full) }
         requires within { weight_of journal.old.entries + 1 < 2 ^ 64 }
         ensures { (source : Source) (n : Naming) (c : Configuration) → IsRun source (code_of program.now) n c self.old → IsFirst n self.old number
             → Asked source (code_of program.now) n c self.old self.new journal.old journal.new result }
     {
+        match self.schedule.make_room(alloc) {
+            Ok(()) => {}
+            Err(error) => return Err(error),
+        }
         let count = match self.config.branches(program, number) {
             Ok(count) => count,
             Err(error) => return Err(error),
