@@ -21,7 +21,6 @@ use sqlite_items::{Items, at};
 use std::alloc::{AllocError, Global};
 
 /// The part that a peel bears.
-#[derive(Drop)]
 pub(crate) struct Child<'a> {
     /// The peel's place.
     pub(crate) at: usize,
@@ -34,8 +33,20 @@ pub(crate) struct Child<'a> {
     pub(crate) held: Channels,
 }
 
+impl<'a> Drop for Child<'a> {
+    fn drop(self) {
+        let Child {
+            at: _,
+            channel: _,
+            side: _,
+            part: _,
+            held,
+        } = self;
+        drop(held);
+    }
+}
+
 /// A plug of which some parts are peeled.
-#[derive(Drop)]
 pub(crate) struct Peeling<'a> {
     /// What the parts that are left hold.
     pub(crate) rest: Channels,
@@ -43,6 +54,19 @@ pub(crate) struct Peeling<'a> {
     pub(crate) used: NameSet,
     /// The parts that are peeled, in order.
     pub(crate) children: Items<Child<'a>>,
+}
+
+impl<'a> Drop for Peeling<'a> {
+    fn drop(self) {
+        let Peeling {
+            rest,
+            used,
+            children,
+        } = self;
+        drop(rest);
+        drop(used);
+        drop(children);
+    }
 }
 
 /// Appends the peels of all parts but the last of the order, and gives what each child holds and what that part holds.

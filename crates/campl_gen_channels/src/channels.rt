@@ -17,11 +17,17 @@ use std::alloc::{AllocError, Global};
 /// The channels that a process holds, by name, with their numbers.
 ///
 /// A number is given to one channel alone, also after that is gone. Look-ups take constant time.
-#[derive(Drop)]
 pub struct Channels {
     pub numbers: IndexMap<Name, u32>,
     /// The number of the next channel.
     pub next: u32,
+}
+
+impl Drop for Channels {
+    fn drop(self) {
+        let Channels { numbers, next: _ } = self;
+        drop(numbers);
+    }
 }
 
 impl Channels {
